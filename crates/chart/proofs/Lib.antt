@@ -1,0 +1,9 @@
+pub mod Bools
+pub mod Bytes
+pub mod Cutting
+pub mod Forms
+pub mod Counting
+pub mod Following
+pub mod Rows
+pub mod Judging
+pub mod Stepping

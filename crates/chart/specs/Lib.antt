@@ -1,0 +1,13 @@
+pub mod Kinds
+pub mod Fields
+pub mod WellFormed
+pub mod Stated
+pub mod Decoding
+pub mod Refusals
+pub mod Stages
+pub mod Limits
+pub mod Order
+pub mod Files
+pub mod Reading
+pub mod Progress
+pub mod Pieces
