@@ -1,7 +1,7 @@
 -- Bytes, and numbers of two bytes.
 use mathlib.Core.Path.{_≡_, refl, ap₂}
 use mathlib.Core.Bool.{true}
-use mathlib.Core.List.{List, [], _∷_}
+use mathlib.Core.List.{List, [], _∷_, _++_}
 use Prim.Native.Nat.{ℕ, zero, suc, _+_, _*_, _/_, _%_, _<_}
 use native.Mathlib.Omega.{arith}
 use lib.ListN.{getD, take, drop}
@@ -45,3 +45,7 @@ word-back h l rest p q = ap₂ (λ a b. a ∷ (b ∷ rest)) (omega arith) (omega
 
 pub word-short : (h l : ℕ) → h < 256 → l < 256 → isWord (h * 256 + l) ≡ true
 word-short h l p q = lt-ltb (h * 256 + l) 65536 (omega arith)
+
+pub bytes-front : (xs ys : List ℕ) → every isByte (xs ++ ys) ≡ true → every isByte xs ≡ true
+bytes-front [] ys h = refl
+bytes-front (x ∷ xs) ys h = let r = both (isByte x) (every isByte (xs ++ ys)) h in join (isByte x) (every isByte xs) (r .0) (bytes-front xs ys (r .1))

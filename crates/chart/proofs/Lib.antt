@@ -7,3 +7,4 @@ pub mod Following
 pub mod Rows
 pub mod Judging
 pub mod Stepping
+pub mod Moving
