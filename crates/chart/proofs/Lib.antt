@@ -8,3 +8,4 @@ pub mod Rows
 pub mod Judging
 pub mod Stepping
 pub mod Moving
+pub mod Gathering

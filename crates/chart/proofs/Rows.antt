@@ -130,7 +130,7 @@ along (f ∷ fs) bs m p rest o w l =
     ∙ read-field (length fs + m) bs p f (encodeAll fs ++ rest) s
     ∙ ap (prepend f) (along fs (f ∷ bs) m (p + length (encode f)) rest (o′ .1) (w′ .1) l)
     ∙ ap (λ q. prepend f (prependAll fs (readFrom m (reverseAux fs (f ∷ bs)) q rest))) (
-      let e : p + length (encode f) + length (encodeAll fs) ≡ p + length (encode f ++ encodeAll fs) = omega (arith, length-append (encode f) (encodeAll fs)) in e
+    let e : p + length (encode f) + length (encodeAll fs) ≡ p + length (encode f ++ encodeAll fs) = omega (arith, length-append (encode f) (encodeAll fs)) in e
     )
 
 -- a row has no more fields than bytes

@@ -11,3 +11,4 @@ pub mod Files
 pub mod Reading
 pub mod Progress
 pub mod Pieces
+pub mod Listing

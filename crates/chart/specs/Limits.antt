@@ -29,7 +29,7 @@ countsOf fs = record {
   inputs = count isInput fs;
   states = count (is State) fs;
   graphs = count (is Graph) fs;
-  transitions = count (is Transition) fs
+  transitions = count (is Transition) fs;
 }
 
 -- the first limit that is passed
@@ -52,7 +52,7 @@ added c f = record {
   inputs = bit (isInput f) + c .inputs;
   states = bit (is State f) + c .states;
   graphs = bit (is Graph f) + c .graphs;
-  transitions = bit (is Transition f) + c .transitions
+  transitions = bit (is Transition f) + c .transitions;
 }
 
 abbrev pub unless : Option Limit → Counts → Result Counts Limit

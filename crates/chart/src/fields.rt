@@ -1,6 +1,10 @@
 // The seven fields of a chart file, each borrowing its part of the file.
+ghost use mathlib.Core.Path.{_≡_};
+ghost use Rattle.chart.specs.Fields.{tagOf};
+ghost use Rattle.chart.specs.Stated.{stated};
 use crate::kinds::SignalKind;
 use crate::kinds::StateKind;
+use crate::kinds::Tag;
 use crate::kinds::TransitionKind;
 
 /// One field. States, graphs and signals are named by their numbers, which count each kind from 0 in file order.
@@ -37,6 +41,22 @@ pub enum Field<'a> {
     Effects {
         signals: &'a [u8],
     },
+}
+
+impl Field<'_> {
+    pub fn tag(&self) -> Tag
+        ensures { λ r. ⌜ r ≡ tagOf (stated (now (self .entry))) ⌝ }
+    {
+        match self {
+            Field::Signal { .. } => Tag::Signal,
+            Field::State { .. } => Tag::State,
+            Field::Graph { .. } => Tag::Graph,
+            Field::Transition { .. } => Tag::Transition,
+            Field::Suspension { .. } => Tag::Suspension,
+            Field::Trigger { .. } => Tag::Trigger,
+            Field::Effects { .. } => Tag::Effects,
+        }
+    }
 }
 
 /// A field and the byte number, from 0, of its tag.

@@ -13,9 +13,13 @@ use crate::kinds::SignalKindPartialEq;
 use crate::refusals::Limit;
 
 const SIGNALS: u16 = 128;
+
 const INPUTS: u16 = 64;
+
 const STATES: u16 = 256;
+
 const GRAPHS: u16 = 128;
+
 const TRANSITIONS: u16 = 512;
 
 /// How many of each limited thing there are. Inputs are signals too.
@@ -55,7 +59,11 @@ impl Counts {
             }
             Field::State { .. } => self.states = one_more(self.states, STATES, Limit::States)?,
             Field::Graph { .. } => self.graphs = one_more(self.graphs, GRAPHS, Limit::Graphs)?,
-            Field::Transition { .. } => self.transitions = one_more(self.transitions, TRANSITIONS, Limit::Transitions)?,
+            Field::Transition { .. } => self.transitions = one_more(
+                self.transitions,
+                TRANSITIONS,
+                Limit::Transitions,
+            )?,
             Field::Suspension { .. } | Field::Trigger { .. } | Field::Effects { .. } => {}
         }
         Ok(self)
@@ -65,5 +73,9 @@ impl Counts {
 fn one_more(count: u16, most: u16, limit: Limit) -> Result<u16, Limit>
     ensures { λ r. ⌜ r ≡ cond (ltb count most) (Ok (count + 1)) (Err limit) ⌝ }
 {
-    if count < most { Ok(count + 1) } else { Err(limit) }
+    if count < most {
+        Ok(count + 1)
+    } else {
+        Err(limit)
+    }
 }

@@ -11,7 +11,10 @@ fn is_digit(byte: u8) -> bool
 fn is_name_byte(byte: u8) -> bool
     ensures { λ r. ⌜ r ≡ isNameByte byte ⌝ }
 {
-    (byte >= b'A' && byte <= b'Z') || (byte >= b'a' && byte <= b'z') || byte == b'_' || (byte >= b'0' && byte <= b'9')
+    (byte >= b'A' && byte <= b'Z')
+        || (byte >= b'a' && byte <= b'z')
+        || byte == b'_'
+        || (byte >= b'0' && byte <= b'9')
 }
 
 /// 1 to 16 letters, digits and underscores, no digit first.

@@ -32,10 +32,16 @@ impl Stage {
     {
         match tag {
             Tag::Signal => matches!(self, Stage::Signals),
-            Tag::State | Tag::Graph => matches!(self, Stage::Signals | Stage::SimpleState | Stage::Structure),
+            Tag::State | Tag::Graph => matches!(
+                self,
+                Stage::Signals | Stage::SimpleState | Stage::Structure
+            ),
             Tag::Transition | Tag::Suspension => true,
             Tag::Trigger => matches!(self, Stage::Transition | Stage::Suspension),
-            Tag::Effects => matches!(self, Stage::SimpleState | Stage::Transition | Stage::TransitionTrigger),
+            Tag::Effects => matches!(
+                self,
+                Stage::SimpleState | Stage::Transition | Stage::TransitionTrigger
+            ),
         }
     }
 
@@ -46,7 +52,8 @@ impl Stage {
         match field {
             Field::Signal { .. } => Stage::Signals,
             Field::State {
-                kind: StateKind::Simple, ..
+                kind: StateKind::Simple,
+                ..
             } => Stage::SimpleState,
             Field::State { .. } | Field::Graph { .. } => Stage::Structure,
             Field::Transition { .. } => Stage::Transition,

@@ -23,7 +23,9 @@ pub(crate) fn check_size(bytes: &[u8]) -> Result<(), Refusal>
         return Err(Refusal::Empty);
     };
     if bytes.len() > LONGEST {
-        return Err(Refusal::TooLong { length: bytes.len() });
+        return Err(Refusal::TooLong {
+            length: bytes.len(),
+        });
     }
     Ok(())
 }

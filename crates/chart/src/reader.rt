@@ -77,7 +77,10 @@ fn judge<'a>(stage: Stage, place: usize, piece: Piece<'a>) -> Result<Field<'a>, 
     ensures { λ r. ⌜ statedBy r ≡ judged (admits stage) place (piece .entry .code) (now (piece .entry .contents)) ⌝ }
 {
     let Some(tag) = Tag::from_code(piece.code) else {
-        return Err(Refusal::UnknownTag { place, code: piece.code });
+        return Err(Refusal::UnknownTag {
+            place,
+            code: piece.code,
+        });
     };
     if !stage.admits(tag) {
         return Err(Refusal::OutOfOrder { place, tag });

@@ -65,7 +65,7 @@ returns-in-Err c =
       same = refl;
       next = (
         limit-refused (r .bytes .now) (r .at) (r .stage) (r .counts) (position r) (left r) (left-is r) (size .0) (size .1) (piece .code) (piece .contents .now) (c .in-Continue-piece .ensures tt)
-        (stated (c .in-Continue-field .field)) (c .in-Continue-field .ensures tt) (c .in-Err .limit) (c .in-Err .ensures tt),
+            (stated (c .in-Continue-field .field)) (c .in-Continue-field .ensures tt) (c .in-Err .limit) (c .in-Err .ensures tt),
         refl,
       );
     }
