@@ -25,6 +25,7 @@ use Rattle.chart.specs.Kinds.{tagCode, tagFrom, signalKindCode, stateKindCode,
 use Rattle.chart.specs.Fields.{Field, signal, state, graph, transition, suspension, trigger, effects, tagOf, word, contents}
 use Rattle.chart.specs.WellFormed.{every, between, isName, isWord, isByte, wellFormed}
 use Rattle.chart.specs.Decoding.{provided, given, wordAt, wordIn, namedSignal, namedState, decode}
+use Rattle.chart.specs.Laws.{Written}
 use Rattle.chart.proofs.Bools.{both, join, cond-case}
 use Rattle.chart.proofs.Bytes.{byte-first, byte-rest, byte-at, halves, word-back, word-short}
 
@@ -70,12 +71,6 @@ decoded (trigger p) h = ap (λ b. provided b Length (Ok (trigger p))) (both (bet
 decoded (effects e) h = ap (λ b. provided b Length (Ok (effects e))) (both (between 1 16 (length e)) (every isByte e) h .0)
 
 -- From contents that are read as a field.
-
--- the field has this tag and these contents, and is well formed
-pub record Written (t : Tag) (c : List ℕ) (f : Field) : Type 0 where
-  pub tag : tagOf f ≡ t
-  pub bytes : contents f ≡ c
-  pub formed : wellFormed f ≡ true
 
 -- a test that was passed, and what came then
 provided-ok : (b : Bool) (p : Part) (r : _) (f : Field) → provided b p r ≡ Ok f → (b ≡ true) × (r ≡ Ok f)

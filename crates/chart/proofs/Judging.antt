@@ -24,7 +24,8 @@ use Rattle.chart.specs.Limits.{countsOf, exceeded}
 use Rattle.chart.specs.Decoding.{decode}
 use Rattle.chart.specs.Files.{piece, Faulty, unknown-tag, out-of-order, not-allowed, beyond-limit}
 use Rattle.chart.specs.Reading.{formed, tagged, judge, unlessExceeded, limited}
-use Rattle.chart.proofs.Forms.{tag-back, Written, written}
+use Rattle.chart.specs.Laws.{Written}
+use Rattle.chart.proofs.Forms.{tag-back, written}
 use Rattle.chart.proofs.Rows.{Stands}
 
 no-tag : (n : ℕ) → 8 ≤ n → tagFrom n ≡ None

@@ -9,3 +9,5 @@ pub mod Judging
 pub mod Stepping
 pub mod Moving
 pub mod Gathering
+pub mod Telling
+pub mod Reasons

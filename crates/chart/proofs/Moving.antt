@@ -28,7 +28,7 @@ use Rattle.chart.specs.Reading.{judge}
 use Rattle.chart.specs.Stages.{admits, after, stageOf}
 use Rattle.chart.proofs.Bytes.{byte-rest, bytes-front, drop-bytes}
 use Rattle.chart.proofs.Following.{stage-admits}
-use Rattle.chart.proofs.Forms.{Written}
+use Rattle.chart.specs.Laws.{Written}
 use Rattle.chart.proofs.Judging.{Judged, judged, judged-fault, judged-written, judged-stands, limit-fault}
 use Rattle.chart.proofs.Rows.{Stands, good, reverse-push}
 use Rattle.chart.proofs.Stepping.{refused, after-within, row-more, before-more, passed-more}

@@ -14,7 +14,6 @@ use Rattle.chart.specs.Files.{isRow, Sized, Passes, piece, Faulty, Refused, at
 use Rattle.chart.specs.Pieces.{Whole}
 use Rattle.chart.specs.Progress.{before}
 use Rattle.chart.specs.Reading.{readFrom, orNone, rowOf}
-use Rattle.chart.proofs.Forms.{Written}
 use Rattle.chart.proofs.Rows.{good, Stands, row-push, encode-push, along, prependAll, prepend-ok, fields-bytes}
 
 read-end : (m p : ℕ) (bs : List Field) → readFrom m bs p [] ≡ Ok []

@@ -11,4 +11,5 @@ pub mod Files
 pub mod Reading
 pub mod Progress
 pub mod Pieces
+pub mod Laws
 pub mod Listing

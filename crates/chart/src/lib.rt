@@ -3,6 +3,7 @@ mod contents;
 pub mod fields;
 pub mod files;
 pub mod kinds;
+pub mod laws;
 mod limits;
 mod names;
 mod order;
