@@ -23,7 +23,7 @@ use Rattle.chart.specs.Limits.{countsOf, exceeded, added, unless, raised}
 use Rattle.chart.specs.Decoding.{wordAt}
 use Rattle.chart.specs.Files.{isRow, Sized, piece, Refused, cut-short}
 use Rattle.chart.specs.Pieces.{Whole}
-use Rattle.chart.specs.Progress.{before}
+use Rattle.chart.specs.Progress.{before, Position}
 use Rattle.chart.specs.Reading.{judge}
 use Rattle.chart.specs.Stages.{admits, after, stageOf}
 use Rattle.chart.proofs.Bytes.{byte-rest, bytes-front, drop-bytes}
@@ -32,13 +32,6 @@ use Rattle.chart.specs.Laws.{Written}
 use Rattle.chart.proofs.Judging.{Judged, judged, judged-fault, judged-written, judged-stands, limit-fault}
 use Rattle.chart.proofs.Rows.{Stands, good, reverse-push}
 use Rattle.chart.proofs.Stepping.{refused, after-within, row-more, before-more, passed-more}
-
-pub record Position (b : List ℕ) (at : ℕ) (stage : Stage) (counts : Counts) : Type 0 where
-  pub within : at ≤ length b
-  pub passed : encodeAll (before b at) ≡ take at b
-  pub row : isRow (before b at) ≡ true
-  pub staged : stage ≡ stageOf (reverse (before b at))
-  pub counted : counts ≡ countsOf (reverse (before b at))
 
 unless-err : (o : Option Limit) (c : Counts) (l : Limit) → Err l ≡ unless o c → o ≡ Some l
 unless-err None c l e = absurd (let z : _≡_ {A = ℕ} 0 1 = cc in omega arith)

@@ -1,16 +1,16 @@
 // The reader: it keeps its place in the file's bytes and gives the fields one by one.
 ghost use mathlib.Core.Path.{_≡_};
 ghost use mathlib.Core.Bool.{true};
-ghost use mathlib.Core.List.{reverse};
-ghost use Prim.Native.Nat.{_≤_};
+ghost use mathlib.Core.List.{[], _∷_, _++_, reverse};
+ghost use Prim.Native.Nat.{_+_, _≤_};
 ghost use lib.ListN.{length, take};
 ghost use Rattle.chart.specs.Fields.{encodeAll};
 ghost use Rattle.chart.specs.Files.{isRow};
 ghost use Rattle.chart.specs.Limits.{countsOf};
-ghost use Rattle.chart.specs.Progress.{before, Next};
+ghost use Rattle.chart.specs.Progress.{before, Position, Field-at, Next};
 ghost use Rattle.chart.specs.Reading.{judge as judged};
-ghost use Rattle.chart.specs.Stages.{admits, stageOf};
-ghost use Rattle.chart.specs.Stated.{statedBy};
+ghost use Rattle.chart.specs.Stages.{admits, after as follows, stageOf};
+ghost use Rattle.chart.specs.Stated.{stated, statedBy};
 use crate::contents::decode;
 use crate::fields::Field;
 use crate::fields::Placed;
@@ -65,10 +65,21 @@ impl<'a> Reader<'a> {
             Ok(counts) => counts,
             Err(limit) => return Err(Refusal::BeyondLimit { place, limit }),
         };
-        self.at = place + 3 + piece.contents.len();
+        Ok(Some(self.pass(field, piece.contents.len(), counts)))
+    }
+
+    /// Moves behind the field that stands here, with contents of this length, to these counts.
+    fn pass(&mut self, field: Field<'a>, length: usize, counts: Counts) -> Placed<'a>
+        requires stands { ⌜ Position (now self .bytes .now) (now self .at + 3 + length) (follows (now self .stage) (stated field)) counts ⌝ }
+        requires row { ⌜ before (now self .bytes .now) (now self .at + 3 + length) ≡ before (now self .bytes .now) (now self .at) ++ (stated field ∷ []) ⌝ }
+        ensures same { λ _. ⌜ now (self .exit) .bytes .now ≡ now (self .entry) .bytes .now ⌝ }
+        ensures next { λ r. ⌜ Field-at (now (self .entry) .bytes .now) (now (self .entry) .at) r (now (self .exit) .at) ⌝ }
+    {
+        let place = self.at;
+        self.at = place + 3 + length;
         self.stage = self.stage.after(&field);
         self.counts = counts;
-        Ok(Some(Placed { place, field }))
+        Placed { place, field }
     }
 }
 

@@ -9,9 +9,9 @@ use Rattle.std.proofs.shelf.Results.{err-from-errBy}
 use Rattle.chart.specs.declared.reader.Reader.{Reader}
 use Rattle.chart.specs.Files.{Refused}
 use Rattle.chart.specs.Limits.{exceeded}
-use Rattle.chart.specs.Progress.{before, Next}
+use Rattle.chart.specs.Progress.{before, Position, Next}
 use Rattle.chart.specs.Stated.{stated}
-use Rattle.chart.proofs.Moving.{Position, cut-refused, fault-refused, limit-refused, row-is, moved}
+use Rattle.chart.proofs.Moving.{cut-refused, fault-refused, limit-refused, row-is, moved}
 use Rattle.chart.proofs.Rows.{good}
 use Rattle.chart.proofs.Stepping.{all-read}
 use Rattle.chart.proofs.reader.Reader.next.Needs as need
@@ -70,26 +70,13 @@ returns-in-Err c =
       );
     }
 
-pub ghost-self : need.ghost-self
-ghost-self c =
-    let r = c .args .self .now in
-    let size = c .in-Continue-check-size .ensures tt in
-    let piece = c .in-Continue-piece .piece in
-    let f = stated (c .in-Continue-field .field) in
-    let on = moved (r .bytes .now) (r .at) (r .stage) (r .counts) (position r) (left r) (left-is r) (size .0) (size .1) (piece .code) (piece .contents .now) (c .in-Continue-piece .ensures tt) f (c .in-Continue-field .ensures tt) (c .in-Ok .counts) (c .in-Ok .ensures tt) in
-    (on .within, (on .passed, (on .row, (c .after-self .ensures ∙ on .staged, (on .counted, tt)))))
-
-pub returns : need.returns
-returns c =
+pub pass-requires : need.pass-requires
+pass-requires c κs =
     let r = c .args .self .now in
     let size = c .in-Continue-check-size .ensures tt in
     let piece = c .in-Continue-piece .piece in
     let f = stated (c .in-Continue-field .field) in
     record {
-      same = refl;
-      next = record {
-        place = refl;
-        further = omega arith;
-        row = row-is (r .bytes .now) (r .at) (r .stage) (r .counts) (position r) (left r) (left-is r) (size .0) (size .1) (piece .code) (piece .contents .now) (c .in-Continue-piece .ensures tt) f (c .in-Continue-field .ensures tt) (c .in-Ok .counts) (c .in-Ok .ensures tt);
-      };
+      stands = moved (r .bytes .now) (r .at) (r .stage) (r .counts) (position r) (left r) (left-is r) (size .0) (size .1) (piece .code) (piece .contents .now) (c .in-Continue-piece .ensures tt) f (c .in-Continue-field .ensures tt) (c .in-Ok .counts) (c .in-Ok .ensures tt);
+      row = row-is (r .bytes .now) (r .at) (r .stage) (r .counts) (position r) (left r) (left-is r) (size .0) (size .1) (piece .code) (piece .contents .now) (c .in-Continue-piece .ensures tt) f (c .in-Continue-field .ensures tt) (c .in-Ok .counts) (c .in-Ok .ensures tt);
     }
