@@ -30,19 +30,19 @@ pub(crate) fn check_size(bytes: &[u8]) -> Result<(), Refusal>
     Ok(())
 }
 
-/// The piece in front of `rest`, which stands at `place`.
-pub(crate) fn cut(rest: &[u8], place: usize) -> Result<Piece<'_>, Refusal>
-    ensures { λ r. ⌜ Cut (now (rest .entry)) place r ⌝ }
+/// The piece in front of `bytes`, which stand at `place`.
+pub(crate) fn cut(bytes: &[u8], place: usize) -> Result<Piece<'_>, Refusal>
+    ensures { λ r. ⌜ Cut (now (bytes .entry)) place r ⌝ }
 {
-    let [code, high, low, tail @ ..] = rest else {
+    let [tag, high, low, rest @ ..] = bytes else {
         return Err(Refusal::CutShort { place });
     };
     let size = *high as usize * 256 + *low as usize;
-    if size > tail.len() {
+    if size > rest.len() {
         return Err(Refusal::CutShort { place });
     }
     Ok(Piece {
-        code: *code,
-        contents: &tail[0..size],
+        code: *tag,
+        contents: &rest[0..size],
     })
 }

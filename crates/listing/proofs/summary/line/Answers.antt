@@ -1,0 +1,11 @@
+use mathlib.Core.Path.{_≡_, subst}
+use Rattle.std.specs.Of.String.{string-bytes}
+use Rattle.std.specs.Vec.{made}
+use Rattle.listing.specs.Texts.{summaryLine}
+use Rattle.listing.proofs.summary.line.Needs as need
+
+pub returns : need.returns
+returns c =
+    subst (λ line. made (c .format .result) (λ text. string-bytes text ≡ line))
+    (λ i. summaryLine (c .count-signals .ensures i) (c .count-states .ensures i) (c .count-graphs .ensures i) (c .count-transitions .ensures i) (c .count-suspensions .ensures i))
+    (c .format .ensures .made)
