@@ -61,8 +61,9 @@ fn file_of(heap: Global, text: &str) -> Result<Option<Vec<u8>>, AllocError> {
 }
 
 fn outcome(heap: Global, file: &[u8]) -> Result<String, AllocError> {
-    match read_fields(heap, file) {
-        Ok(fields) => {
+    let mut fields = Vec::new(heap);
+    match read_fields(file, &mut fields) {
+        Ok(()) => {
             let count = fields.len();
             format!(heap, "{count} fields")
         }

@@ -133,7 +133,7 @@ along (f ∷ fs) bs m p rest o w l =
     let e : p + length (encode f) + length (encodeAll fs) ≡ p + length (encode f ++ encodeAll fs) = omega (arith, length-append (encode f) (encodeAll fs)) in e
     )
 
--- a row has no more fields than bytes
-pub fields-bytes : (fs : List Field) → length fs ≤ length (encodeAll fs)
+-- a field has three bytes at least
+pub fields-bytes : (fs : List Field) → 3 * length fs ≤ length (encodeAll fs)
 fields-bytes [] = omega arith
 fields-bytes (f ∷ fs) = let r = fields-bytes fs in omega (arith, length-append (encode f) (encodeAll fs))

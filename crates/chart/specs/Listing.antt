@@ -1,7 +1,7 @@
 -- The fields of a whole file, with their places. Assumes nothing.
 use mathlib.Core.Path.{_≡_}
 use mathlib.Core.List.{List, map}
-use Prim.Native.Nat.{ℕ, _<_}
+use Prim.Native.Nat.{ℕ, _*_, _<_}
 use lib.ListN.{length, getD}
 use Rattle.chart.specs.declared.fields.Placed.{Placed}
 use Rattle.chart.specs.declared.files.ReadError.{ReadError}
@@ -22,7 +22,7 @@ pub record Listed (b : List ℕ) (ps : List Placed) : Type 0 where
   pub passes : Passes b (fieldsIn ps)
   pub places : (i : ℕ) → i < length ps → getD (placesIn ps) i 0 ≡ placeAt (fieldsIn ps) i
 
--- The file is refused so. Want of memory says nothing of the file.
-abbrev pub Why : List ℕ → ReadError → Type 0
-Why b (error.the-variants.Refused e) = Refused b e
-Why b Memory = Unit {0}
+-- Why there are no fields, with room for so many: the file is refused so, or there was not enough room.
+abbrev pub Why : List ℕ → ℕ → ReadError → Type 0
+Why b room (error.the-variants.Refused e) = Refused b e
+Why b room Memory = 3 * room < length b

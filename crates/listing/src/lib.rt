@@ -25,8 +25,9 @@ mod words;
 pub fn listing(heap: Global, bytes: &[u8]) -> Result<String, AllocError>
     ensures { λ r. ⌜ made r (λ text. Told (now (bytes .entry)) (string-bytes text)) ⌝ }
 {
-    match read_fields(heap, bytes) {
-        Ok(fields) => chart_text(heap, fields.as_slice()),
+    let mut fields = Vec::new(heap);
+    match read_fields(bytes, &mut fields) {
+        Ok(()) => chart_text(heap, fields.as_slice()),
         Err(ReadError::Refused(refusal)) => refusal_text(heap, &refusal),
         Err(ReadError::Memory) => Err(AllocError),
     }
