@@ -1,7 +1,9 @@
 // Runs the first layer's test cases: each line of standard input is a name, a colon and a file's bytes in hexadecimal; a `#` begins a remark.
-// Bytes stand in parts with commas between them, and `N*` in front of a part repeats it. For each case one line tells how its file fares.
+// Bytes stand in parts with commas between them, and `N*` in front of a part repeats it. For each case one line tells how its file fares,
+// or, if its name begins with `show`, the listing of the file follows the name.
 use chart::files::ReadError;
 use chart::files::read_fields;
+use listing::listing;
 use std::alloc::AllocError;
 use std::alloc::Global;
 use std::error::AnyError;
@@ -77,6 +79,15 @@ fn outcome(heap: Global, file: &[u8]) -> Result<String, AllocError> {
     }
 }
 
+fn report(heap: Global, name: &str, file: &[u8]) -> Result<String, AllocError> {
+    if name.starts_with("show ") {
+        let text = listing(heap, file)?;
+        return format!(heap, "{name}:\n{text}");
+    }
+    let told = outcome(heap, file)?;
+    format!(heap, "{name}: {told}")
+}
+
 fn answer(heap: Global, line: &str) -> Result<Option<String>, AllocError> {
     let case = match line.split_once('#') {
         Some((case, _)) => case,
@@ -86,10 +97,10 @@ fn answer(heap: Global, line: &str) -> Result<Option<String>, AllocError> {
         return Ok(None);
     };
     let told = match file_of(heap, text)? {
-        Some(file) => outcome(heap, &file)?,
-        None => String::from_str(heap, "not a case")?,
+        Some(file) => report(heap, name, &file)?,
+        None => format!(heap, "{name}: not a case")?,
     };
-    Ok(Some(format!(heap, "{name}: {told}")?))
+    Ok(Some(told))
 }
 
 fn run(rt: &LibcRuntime) -> Result<(), AnyError> {

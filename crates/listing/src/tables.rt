@@ -1,6 +1,4 @@
 // The chart's parts gathered from the file's fields, each with the trigger and the effects that stand behind it.
-ghost use Prim.Native.Nat.{_≤_};
-ghost use lib.ListN.{length};
 use crate::names::Name;
 use crate::names::SignalNamed;
 use crate::names::StateNamed;

@@ -1,7 +1,6 @@
-use mathlib.Core.Path.{_≡_, sym, ap, subst}
+use mathlib.Core.Path.{sym, subst}
 use borrow.Author.Needs.{needs}
 use Rattle.std.specs.Of.String.{string-bytes}
-use Rattle.std.specs.Of.Vec.{vec-items}
 use Rattle.std.proofs.shelf.Results.{made-weaker}
 use Rattle.chart.specs.Files.{Passes, Refused}
 use Rattle.chart.specs.Listing.{fieldsIn}
