@@ -1,0 +1,11 @@
+pub mod Bools
+pub mod Folds
+pub mod Closed
+pub mod Numbers
+pub mod Structure
+pub mod Chains
+pub mod Soundness
+pub mod Ranks
+pub mod Rules
+pub mod Outcomes
+pub mod Examples

@@ -1,0 +1,11 @@
+pub mod Numbering
+pub mod Ranges
+pub mod Closure
+pub mod Parts
+pub mod Tables
+pub mod Triggers
+pub mod Faults
+pub mod Outcome
+pub mod Chart
+pub mod Sound
+pub mod Laws
