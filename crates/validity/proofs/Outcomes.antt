@@ -69,23 +69,23 @@ module _ (fs : List Field) where
   kept : (r : Rule) → Keeps fs r → firstBy fs r ≡ None
   kept r h = none-first (length fs) (foundAt r) (λ i l. ap (located (placeAt fs i)) (h i l))
 
-  abbrev byRank : ℕ → Option Invalid
-  byRank k = firstBy fs (ruleAt k)
+  abbrev inOrder : ℕ → Option Invalid
+  inOrder k = firstBy fs (ruleAt k)
 
   accepted : outcome fs ≡ Ok tt → Faultless fs
-  accepted e r = go (firstOf 6 byRank) refl e
+  accepted e r = go (firstOf 6 inOrder) refl e
     where
-      go : (o : Option Invalid) → firstOf 6 byRank ≡ o → unless o ≡ Ok tt → Keeps fs r
+      go : (o : Option Invalid) → firstOf 6 inOrder ≡ o → unless o ≡ Ok tt → Keeps fs r
       go (Some x) q e = absurd (let z : _≡_ {A = ℕ} 0 1 = cc in omega arith)
-      go None q e = let p = placed r in subst (Keeps fs) (p .is) (keeps (ruleAt (p .k)) (first-none 6 byRank q (p .k) (p .below)))
+      go None q e = let p = placed r in subst (Keeps fs) (p .is) (keeps (ruleAt (p .k)) (first-none 6 inOrder q (p .k) (p .below)))
 
   accepts : Faultless fs → outcome fs ≡ Ok tt
-  accepts F = ap unless (none-first 6 byRank (λ k l. kept (ruleAt k) (F (ruleAt k))))
+  accepts F = ap unless (none-first 6 inOrder (λ k l. kept (ruleAt k) (F (ruleAt k))))
 
   refused : (x : Invalid) → outcome fs ≡ Err x → Refused fs x
-  refused x e = go (firstOf 6 byRank) refl e
+  refused x e = go (firstOf 6 inOrder) refl e
     where
-      at-first : FirstAt 6 byRank x → Refused fs x
+      at-first : FirstAt 6 inOrder x → Refused fs x
       at-first a =
           let r = ruleAt (a .k) in
           let b = first-some (length fs) (foundAt r) x (a .here) in
@@ -103,9 +103,9 @@ module _ (fs : List Field) where
                 subst (Keeps fs) (p .is) (keeps (ruleAt (p .k)) (a .before (p .k) (omega (arith, l, n, p .number))));
           }
 
-      go : (o : Option Invalid) → firstOf 6 byRank ≡ o → unless o ≡ Err x → Refused fs x
+      go : (o : Option Invalid) → firstOf 6 inOrder ≡ o → unless o ≡ Err x → Refused fs x
       go None q e = absurd (let z : _≡_ {A = ℕ} 0 1 = cc in omega arith)
-      go (Some y) q e = let same : y ≡ x = cc in at-first (first-some 6 byRank x (q ∙ ap Some same))
+      go (Some y) q e = let same : y ≡ x = cc in at-first (first-some 6 inOrder x (q ∙ ap Some same))
 
   refuses : (x : Invalid) → Refused fs x → outcome fs ≡ Err x
   refuses x R =
@@ -117,7 +117,7 @@ module _ (fs : List Field) where
         here = ap (located (placeAt fs (R .i))) (R .faulty) ∙ ap (λ q. Some (record { place = q; fault = x .fault })) (sym (R .place));
         before = λ j l. ap (located (placeAt fs j)) (R .first-field j l);
       }) in
-      ap unless (some-first 6 byRank x (record {
+      ap unless (some-first 6 inOrder x (record {
         k = p .k;
         below = p .below;
         here = ap (firstBy fs) (p .is) ∙ here;

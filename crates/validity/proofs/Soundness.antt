@@ -40,7 +40,7 @@ every-both p q (x ∷ xs) a b =
     join (p x && q x) (every (λ x. p x && q x) xs) (join (p x) (q x) (h .0) (k .0)) (every-both p q xs (h .1) (k .1))
 
 module _ (fs : List Field) (some : 0 < length fs) (A : Faultless fs) where
-  pub F : Structured fs
+  abbrev F : Structured fs
   F = record { some-field = some; keeps-references = A references; keeps-nesting = A nesting; keeps-ends = A ends; keeps-leaving = A leaving }
 
   -- Triggers and effects.

@@ -2,7 +2,7 @@
 ghost use mathlib.Core.Path.{_≡_};
 ghost use Rattle.validity.specs.Numbering.{numberOf, layerOf};
 
-/// A fault, and the field that has it.
+/// What is wrong with a field.
 #[derive(Clone, Copy)]
 pub enum Fault {
     /// 21: a state's graph number names no graph in front of it, or that of state 0 is not 65,535.
@@ -69,7 +69,7 @@ pub enum Fault {
     OnRing,
 }
 
-/// `place` is the byte number, from 0, of the faulty field's tag.
+/// A field with a fault. `place` is the byte number, from 0, of the faulty field's tag.
 #[derive(Clone, Copy)]
 pub struct Invalid {
     pub place: usize,
