@@ -1,21 +1,20 @@
 // The listing of a chart file: what is in it, or why it is refused.
+ghost use mathlib.Core.Path.{_≡_};
 ghost use Rattle.std.specs.Of.String.{string-bytes};
 ghost use Rattle.std.specs.Vec.{made};
 ghost use Rattle.chart.specs.Listing.{fieldsIn};
-ghost use Rattle.listing.specs.Texts.{Told, Ends, Begins};
+ghost use Rattle.verdict.specs.Texts.{Told, Ends};
 use chart::fields::Placed;
 use chart::files::ReadError;
 use chart::files::read_fields;
-use chart::refusals::Refusal;
 use std::alloc::AllocError;
 use std::alloc::Global;
+use verdict::refusal_text;
+use verdict::summary;
 
 mod names;
 mod outline;
-mod refusals;
 mod sections;
-mod sentences;
-mod summary;
 mod tables;
 mod triggers;
 mod words;
@@ -39,16 +38,5 @@ fn chart_text(heap: Global, fields: &[Placed<'_>]) -> Result<String, AllocError>
     let mut text = sections::all(heap, fields)?;
     let last = summary::line(heap, fields)?;
     text.push_str(last.as_str())?;
-    Ok(text)
-}
-
-/// The number, layer and place of the refusal, and behind them a sentence on it.
-fn refusal_text(heap: Global, refusal: &Refusal) -> Result<String, AllocError>
-    ensures { λ r. ⌜ made r (λ text. Begins (now (refusal .entry)) (string-bytes text)) ⌝ }
-{
-    let mut text = refusals::line(heap, refusal)?;
-    let sentence = sentences::on(heap, refusal)?;
-    text.push_str(sentence.as_str())?;
-    text.push('\n')?;
     Ok(text)
 }

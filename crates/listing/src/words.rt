@@ -1,7 +1,6 @@
-// The words for kinds and tags.
+// The words for kinds.
 use chart::kinds::SignalKind;
 use chart::kinds::StateKind;
-use chart::kinds::Tag;
 use chart::kinds::TransitionKind;
 
 pub(crate) fn signal_kind(kind: SignalKind) -> &'static str {
@@ -25,18 +24,5 @@ pub(crate) fn transition_kind(kind: TransitionKind) -> &'static str {
         TransitionKind::Strong => "strong",
         TransitionKind::Weak => "weak",
         TransitionKind::Normal => "normal",
-    }
-}
-
-/// A field with this tag.
-pub(crate) fn field(tag: Tag) -> &'static str {
-    match tag {
-        Tag::Signal => "signal",
-        Tag::State => "state",
-        Tag::Graph => "graph",
-        Tag::Transition => "transition",
-        Tag::Suspension => "suspension",
-        Tag::Trigger => "trigger",
-        Tag::Effects => "effects field",
     }
 }

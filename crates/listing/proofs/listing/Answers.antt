@@ -4,7 +4,7 @@ use Rattle.std.specs.Of.String.{string-bytes}
 use Rattle.std.proofs.shelf.Results.{made-weaker}
 use Rattle.chart.specs.Files.{Passes, Refused}
 use Rattle.chart.specs.Listing.{fieldsIn}
-use Rattle.listing.specs.Texts.{Told, passes, refused, Ends, Begins}
+use Rattle.verdict.specs.Texts.{Told, passes, refused, Ends, Begins}
 use Rattle.listing.proofs.listing.Needs as need
 
 pub returns-in-Ok : need.returns-in-Ok

@@ -3,9 +3,9 @@ use Rattle.std.proofs.shelf.Lists.{at-drop-all}
 use Rattle.chart.specs.Fields.{is}
 use Rattle.chart.specs.Limits.{count}
 use Rattle.chart.specs.Listing.{fieldsIn}
-use Rattle.listing.proofs.Counting.{same-tag, other-tag, count-more}
-use Rattle.listing.proofs.summary.count.Needs as need
-use Rattle.listing.proofs.summary.count.Needs.{then-eq, else-eq}
+use Rattle.verdict.proofs.Counting.{same-tag, other-tag, count-more}
+use Rattle.verdict.proofs.summary.count.Needs as need
+use Rattle.verdict.proofs.summary.count.Needs.{then-eq, else-eq}
 
 pub loop-placed-again : need.loop-placed-again
 loop-placed-again c =

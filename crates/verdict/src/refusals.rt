@@ -2,7 +2,7 @@
 ghost use mathlib.Core.Path.{_≡_};
 ghost use Rattle.std.specs.Of.String.{string-bytes};
 ghost use Rattle.std.specs.Vec.{made};
-ghost use Rattle.listing.specs.Texts.{refusalLine};
+ghost use Rattle.verdict.specs.Texts.{refusalLine};
 use chart::refusals::Refusal;
 use std::alloc::AllocError;
 use std::alloc::Global;

@@ -4,7 +4,7 @@ use lib.ListN.{drop}
 use Rattle.chart.specs.Fields.{is}
 use Rattle.chart.specs.Limits.{count}
 use Rattle.chart.specs.Listing.{fieldsIn}
-use Rattle.listing.proofs.summary.count.Given as given
+use Rattle.verdict.proofs.summary.count.Given as given
 
 -- with the fields to come it is the count of all
 abbrev pub Inv-loop-placed : given.InvT-loop-placed

@@ -1,8 +1,8 @@
 use mathlib.Core.Path.{_≡_, subst}
 use Rattle.std.specs.Of.String.{string-bytes}
 use Rattle.std.specs.Vec.{made}
-use Rattle.listing.specs.Texts.{summaryLine}
-use Rattle.listing.proofs.summary.line.Needs as need
+use Rattle.verdict.specs.Texts.{summaryLine}
+use Rattle.verdict.proofs.summary.line.Needs as need
 
 pub returns : need.returns
 returns c =

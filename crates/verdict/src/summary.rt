@@ -5,14 +5,14 @@ ghost use Rattle.std.specs.Vec.{made};
 ghost use Rattle.chart.specs.Fields.{is};
 ghost use Rattle.chart.specs.Limits.{count as counted};
 ghost use Rattle.chart.specs.Listing.{fieldsIn};
-ghost use Rattle.listing.specs.Texts.{summaryOf};
+ghost use Rattle.verdict.specs.Texts.{summaryOf};
 use chart::fields::Placed;
 use chart::kinds::Tag;
 use chart::kinds::TagPartialEq;
 use std::alloc::AllocError;
 use std::alloc::Global;
 
-pub(crate) fn line(heap: Global, fields: &[Placed<'_>]) -> Result<String, AllocError>
+pub fn line(heap: Global, fields: &[Placed<'_>]) -> Result<String, AllocError>
     ensures { λ r. ⌜ made r (λ text. string-bytes text ≡ summaryOf (fieldsIn (now (fields .entry)))) ⌝ }
 {
     let signals = count(fields, Tag::Signal);

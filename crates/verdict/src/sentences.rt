@@ -1,5 +1,4 @@
 // A plain sentence on each refusal.
-use crate::words::field;
 use chart::kinds::Tag;
 use chart::refusals::Limit;
 use chart::refusals::Part;
@@ -117,5 +116,18 @@ fn most(limit: Limit) -> &'static str {
         Limit::States => "256 states",
         Limit::Graphs => "128 graphs",
         Limit::Transitions => "512 transitions",
+    }
+}
+
+/// A field with this tag.
+fn field(tag: Tag) -> &'static str {
+    match tag {
+        Tag::Signal => "signal",
+        Tag::State => "state",
+        Tag::Graph => "graph",
+        Tag::Transition => "transition",
+        Tag::Suspension => "suspension",
+        Tag::Trigger => "trigger",
+        Tag::Effects => "effects field",
     }
 }
