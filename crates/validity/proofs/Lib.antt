@@ -7,5 +7,6 @@ pub mod Chains
 pub mod Soundness
 pub mod Ranks
 pub mod Rules
+pub mod Evaluation
 pub mod Outcomes
 pub mod Examples

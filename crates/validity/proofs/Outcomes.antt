@@ -15,6 +15,7 @@ use Rattle.validity.specs.Ranges.{firstOf}
 use Rattle.validity.specs.Faults.{faultBy}
 use Rattle.validity.specs.Outcome.{Keeps, Faultless, Refused, located, firstBy, ruleAt, unless, outcome}
 use Rattle.validity.specs.Laws.{Validity-laws}
+use Rattle.validity.proofs.Evaluation.{triggers-evaluate}
 use Rattle.validity.proofs.Folds.{FirstAt, none-first, first-none, some-first, first-some}
 use Rattle.validity.proofs.Closed.{leads-computed}
 use Rattle.validity.proofs.Rules.{rule-at, by-rule}
@@ -129,6 +130,7 @@ validity-laws = record {
   accepts = λ fs. (accepted fs, accepts fs);
   refuses = λ fs x. (refused fs x, refuses fs x);
   by-rule = by-rule;
+  triggers = triggers-evaluate;
   closure = leads-computed;
   chains = chains;
   chains-only = chains-only;

@@ -3,9 +3,9 @@ use mathlib.Core.Path.{_≡_}
 use mathlib.Core.Logic.{_↔_}
 use mathlib.Core.Bool.{Bool, true}
 use mathlib.Core.List.{List}
-use Prim.Native.Nat.{ℕ, _<_}
+use Prim.Native.Nat.{ℕ, _<_, _≤_}
 use lib.ListN.{length}
-use Rattle.std.specs.declared.option.Option.the-variants.{Some}
+use Rattle.std.specs.declared.option.Option.the-variants.{Some, None}
 use Rattle.std.specs.declared.result.Result.the-variants.{Ok, Err}
 use Rattle.chart.specs.Fields.{Field}
 use Rattle.chart.specs.Files.{Passes}
@@ -13,6 +13,8 @@ use Rattle.validity.specs.declared.faults.Fault.{Fault}
 use Rattle.validity.specs.declared.faults.Invalid.{Invalid}
 use Rattle.validity.specs.Numbering.{Rule, references, nesting, ends, leaving, ruleOf}
 use Rattle.validity.specs.Closure.{Leads, leads}
+use Rattle.validity.specs.Triggers.{postfixFault}
+use Rattle.validity.specs.Expressions.{Expression, postfix, names, height}
 use Rattle.validity.specs.Tables.{transitions, chainLeads, isChainBy, isChain}
 use Rattle.validity.specs.Faults.{faultBy}
 use Rattle.validity.specs.Outcome.{Keeps, Faultless, Refused, outcome}
@@ -37,6 +39,8 @@ pub record Validity-laws : Type 0 where
   pub refuses : (fs : List Field) (x : Invalid) → (outcome fs ≡ Err x) ↔ Refused fs x
   -- a fault that is found by a rule is one of that rule
   pub by-rule : (fs : List Field) (r : Rule) (i : ℕ) (f : Fault) → faultBy fs r i ≡ Some f → ruleOf f ≡ r
+  -- A trigger has no fault exactly if it is the postfix of an expression over the chart's signals that needs at most eight stacked values.
+  pub triggers : (signals : ℕ) (p : List ℕ) → (postfixFault signals p 0 ≡ None) ↔ ((e : Expression) × (postfix e ≡ p) × (names signals e ≡ true) × (height e ≤ 8))
   -- The computed closure is the relation, where steps stay below n.
   pub closure : (n : ℕ) (step : ℕ → ℕ → Bool) → ((x y : ℕ) → step x y ≡ true → (x < n) × (y < n)) → (x y : ℕ) → (leads n step x y ≡ true) ↔ Leads step x y
   -- Chain transitions and macrostates that may end on entry are told by one another. One set of transitions is so told, and no other.

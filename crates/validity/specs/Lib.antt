@@ -4,6 +4,7 @@ pub mod Closure
 pub mod Parts
 pub mod Tables
 pub mod Triggers
+pub mod Expressions
 pub mod Faults
 pub mod Outcome
 pub mod Chart
