@@ -5,7 +5,7 @@ ghost use Rattle.std.specs.Vec.{made};
 ghost use Rattle.chart.specs.Fields.{is};
 ghost use Rattle.chart.specs.Limits.{count as counted};
 ghost use Rattle.chart.specs.Listing.{fieldsIn};
-ghost use Rattle.verdict.specs.Texts.{summaryOf};
+ghost use Rattle.verdict.specs.Texts.{summaryLine, summaryOf};
 use chart::fields::Placed;
 use chart::kinds::Tag;
 use chart::kinds::TagPartialEq;
@@ -20,6 +20,19 @@ pub fn line(heap: Global, fields: &[Placed<'_>]) -> Result<String, AllocError>
     let graphs = count(fields, Tag::Graph);
     let transitions = count(fields, Tag::Transition);
     let suspensions = count(fields, Tag::Suspension);
+    counts_line(heap, signals, states, graphs, transitions, suspensions)
+}
+
+fn counts_line(
+    heap: Global,
+    signals: usize,
+    states: usize,
+    graphs: usize,
+    transitions: usize,
+    suspensions: usize,
+) -> Result<String, AllocError>
+    ensures { λ r. ⌜ made r (λ text. string-bytes text ≡ summaryLine signals states graphs transitions suspensions) ⌝ }
+{
     format!(
         heap,
         "{signals} signals, {states} states, {graphs} graphs, {transitions} transitions, {suspensions} suspensions\n",

@@ -6,6 +6,6 @@ use Rattle.verdict.proofs.summary.line.Needs as need
 
 pub returns : need.returns
 returns c =
-    subst (λ line. made (c .format .result) (λ text. string-bytes text ≡ line))
+    subst (λ line. made (c .counts-line .result) (λ text. string-bytes text ≡ line))
     (λ i. summaryLine (c .count-signals .ensures i) (c .count-states .ensures i) (c .count-graphs .ensures i) (c .count-transitions .ensures i) (c .count-suspensions .ensures i))
-    (c .format .ensures .made)
+    (c .counts-line .ensures)
