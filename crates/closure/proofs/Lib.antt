@@ -1,0 +1,4 @@
+mod Words
+mod Singles
+mod Rounds
+mod Added
