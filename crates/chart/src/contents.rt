@@ -1,7 +1,5 @@
 // A field's contents, once its tag is known.
 ghost use mathlib.Core.Path.{_≡_};
-ghost use Prim.Native.Nat.{ℕ, _+_, _*_};
-ghost use lib.ListN.{length};
 ghost use Rattle.chart.specs.Decoding.{decode as decoded, wordIn, namedSignal, namedState};
 ghost use Rattle.chart.specs.Stated.{statedBy};
 use crate::fields::Field;

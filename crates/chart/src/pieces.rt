@@ -1,7 +1,4 @@
 // The pieces that a file is cut into: a tag, a length and contents.
-ghost use mathlib.Core.Path.{_≡_};
-ghost use Prim.Native.Nat.{ℕ, _≤_};
-ghost use lib.ListN.{length};
 ghost use Rattle.chart.specs.Pieces.{Cut, SizeChecked};
 use crate::refusals::Refusal;
 

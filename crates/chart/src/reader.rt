@@ -22,6 +22,8 @@ use crate::pieces::check_size;
 use crate::pieces::cut;
 use crate::refusals::Refusal;
 
+/// A reader of a file's fields. What lies in front of its place `at` is a row of fields in order, well formed and within the limits;
+/// stage and counts are those behind that row.
 #[derive(Drop)]
 pub struct Reader<'a> {
     bytes: &'a [u8],

@@ -1,5 +1,4 @@
 // The listing of a chart file: what is in it, or why it is refused.
-ghost use mathlib.Core.Path.{_≡_};
 ghost use Rattle.std.specs.Of.String.{string-bytes};
 ghost use Rattle.std.specs.Vec.{made};
 ghost use Rattle.chart.specs.Listing.{fieldsIn};

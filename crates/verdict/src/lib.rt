@@ -1,5 +1,4 @@
 // What is told of a chart file in a line: how much it holds, or why it is refused.
-ghost use mathlib.Core.Path.{_≡_};
 ghost use Rattle.std.specs.Of.String.{string-bytes};
 ghost use Rattle.std.specs.Vec.{made};
 ghost use Rattle.verdict.specs.Texts.{Begins};
