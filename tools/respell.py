@@ -3,7 +3,7 @@
 
     python3 tools/respell.py [FOLDER]
 
-Run once, at the top, after the kit's port.py. It goes by whole tokens, in all .antt files, and in the clauses of .rt files
+Run at the top, after the kit's port.py. Where no name is left to respell it changes nothing. It goes by whole tokens, in all .antt files, and in the clauses of .rt files
 and the lines of must-fail edits, which take the names from there. A token right behind a dot is a projection or a name
 that the check makes; there only the names of FIELDS are respelled. A name that would fall together with another one has
 a name of its own in NAMES.
@@ -601,18 +601,28 @@ def respelled(line):
     return TOKEN.sub(name, line)
 
 
-def main(folder):
+def texts(folder):
     for kind in ("specs/**/*.antt", "proofs/**/*.antt", "src/**/*.rt", "must-fail/*.edit"):
         for path in sorted(glob.glob(f"{folder}/crates/*/{kind}", recursive=True)):
             with open(path, encoding="utf-8") as it:
-                text = it.read()
-            new = "".join(
-                # In a comment of prose, and in the code of a Rust line, nothing has these names.
-                respelled(line) for line in text.splitlines(keepends=True)
-            )
-            if new != text:
-                with open(path, "w", encoding="utf-8") as it:
-                    it.write(new)
+                yield path, it.read()
+
+
+def is_older(name):
+    """A name that is not in snake case: only a tree that has not been respelled yet has one."""
+    return "-" in name or re.search(r"[a-z][A-Z]", name)
+
+
+def main(folder):
+    older = {name for name in NAMES if is_older(name)}
+    found = list(texts(folder))
+    if not any(older & set(TOKEN.findall(text)) for path, text in found if path.endswith(".antt") and "/specs/" in path):
+        return
+    for path, text in found:
+        new = "".join(respelled(line) for line in text.splitlines(keepends=True))
+        if new != text:
+            with open(path, "w", encoding="utf-8") as it:
+                it.write(new)
 
 
 if __name__ == "__main__":

@@ -9,7 +9,7 @@ use Rattle.closure.specs.declared.Reach.{Reach}
 use Rattle.closure.specs.Edges.{no_edge, edge_steps}
 use Rattle.closure.specs.Rows.{told}
 use Rattle.validity.specs.Closure.{leads}
-use Rattle.validity.specs.Parts.{edge_in_lem}
+use Rattle.validity.specs.Parts.{edge_in}
 use Rattle.validity.specs.Ranges.{any_of, row, kept}
 use Rattle.validity.specs.Tables.{states, transitions, source_of, target_of, chain_step, chain_leads, is_chain_by, chain_within, is_chain}
 use Rattle.validity.proofs.Bools.{clash, same_test}
@@ -28,7 +28,7 @@ row_out (suc n) f zero l = absurd (omega arith)
 row_out (suc n) f (suc k) l = row_out n (λ i. f (suc i)) k (omega arith)
 
 none_beyond : (fs : List Field) (n t : ℕ) → transitions fs ≤ t → chain_within fs n t ≡ false
-none_beyond fs zero t l = sym (ap (λ f. (edge_in_lem f).immediate) (beyond (is Transition) fs t l))
+none_beyond fs zero t l = sym (ap (λ f. (edge_in f).immediate) (beyond (is Transition) fs t l))
 none_beyond fs (suc n) t l = row_out (transitions fs) (is_chain_by fs (chain_leads fs (chain_within fs n))) t l
 
 -- A level like the one before it is the last.

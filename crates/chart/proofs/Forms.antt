@@ -10,7 +10,7 @@ use Rattle.chart.specs.declared.kinds.TransitionKind.{TransitionKind}
 use Rattle.chart.specs.declared.kinds.TransitionKind.TheVariants.{Strong, Weak, Normal}
 use Rattle.chart.specs.declared.refusals.Part.{Part}
 use Rattle.chart.specs.declared.refusals.Part.TheVariants.{Length, Kind, Flag, Name}
-use Rattle.chart.specs.Kinds.{tag_code, tag_from, signal_kind_code, state_kind_code, transition_kind_code, flag_code, one_of_three_lem, signal_kind_from, state_kind_from, transition_kind_from, flag_from}
+use Rattle.chart.specs.Kinds.{tag_code, tag_from, signal_kind_code, state_kind_code, transition_kind_code, flag_code, one_of_three, signal_kind_from, state_kind_from, transition_kind_from, flag_from}
 use Rattle.chart.specs.Fields.{Field, signal, state, graph, transition, suspension, trigger, effects, tag_of, word, contents}
 use Rattle.chart.specs.WellFormed.{every, between, is_name, is_word, is_byte, well_formed}
 use Rattle.chart.specs.Decoding.{provided, given, word_at, word_in, named_signal, named_state, decode}
@@ -73,10 +73,10 @@ given_ok (Some a) p k f e = (a, refl, e)
 none_some : {A B : Type 0} (a : A) → None ≡ Some a → B
 none_some a e = absurd (let z : ◌≡◌ {A = ℕ} 0 1 = cc in omega arith)
 
-none_of_three : {A : Type 0} (a b c : A) (n : ℕ) → 3 ≤ n → one_of_three_lem a b c n ≡ None
+none_of_three : {A : Type 0} (a b c : A) (n : ℕ) → 3 ≤ n → one_of_three a b c n ≡ None
 none_of_three a b c n l = rw (ne_eqb n 0 (λ e. omega arith), ne_eqb n 1 (λ e. omega arith), ne_eqb n 2 (λ e. omega arith))
 
-one_of_three_lem : {A : Type 0} (code : A → ℕ) (a b c : A) → code a ≡ 0 → code b ≡ 1 → code c ≡ 2 → (n : ℕ) (k : A) → one_of_three_lem a b c n ≡ Some k → code k ≡ n
+one_of_three_lem : {A : Type 0} (code : A → ℕ) (a b c : A) → code a ≡ 0 → code b ≡ 1 → code c ≡ 2 → (n : ℕ) (k : A) → one_of_three a b c n ≡ Some k → code k ≡ n
 one_of_three_lem code a b c p q r zero k e = let same : a ≡ k = cc in ap code (sym same) ∙ p
 one_of_three_lem code a b c p q r (suc zero) k e = let same : b ≡ k = cc in ap code (sym same) ∙ q
 one_of_three_lem code a b c p q r (suc (suc zero)) k e = let same : c ≡ k = cc in ap code (sym same) ∙ r

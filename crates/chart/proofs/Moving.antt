@@ -12,7 +12,7 @@ use Rattle.chart.specs.WellFormed.{every, is_byte}
 use Rattle.chart.specs.Order.{may_follow}
 use Rattle.chart.specs.Limits.{counts_of, exceeded, added, unless, raised}
 use Rattle.chart.specs.Decoding.{word_at}
-use Rattle.chart.specs.Files.{row_is, Sized, piece, Refused, cut_short}
+use Rattle.chart.specs.Files.{is_row, Sized, piece, Refused, cut_short}
 use Rattle.chart.specs.Pieces.{Whole}
 use Rattle.chart.specs.Progress.{before, Position}
 use Rattle.chart.specs.Reading.{judge}
@@ -79,7 +79,7 @@ module _ (b : List ℕ) (at : ℕ) (stage : Stage) (counts : Counts) (pos : Posi
             record {
               within = after_within b at pos.within pos.passed pos.row rest is code c whole f fits.0.bytes fits.1 stands;
               passed = passed_more b at pos.within pos.passed pos.row rest is code c whole f fits.0.bytes fits.1 stands;
-              row = ap row_is row_is ∙ row_more b at pos.within pos.passed pos.row rest is code c whole f fits.0.bytes fits.1 stands;
+              row = ap is_row row_is ∙ row_more b at pos.within pos.passed pos.row rest is code c whole f fits.0.bytes fits.1 stands;
               staged = ap (λ s. after s f) pos.staged ∙ sym (ap stage_of turned);
               counted = (unless_ok (exceeded (added counts f)) (added counts f) more r).1 ∙ ap (λ k. added k f) pos.counted ∙ sym (ap counts_of turned);
             }

@@ -9,7 +9,7 @@ use Rattle.chart.specs.declared.refusals.Part.{Part}
 use Rattle.chart.specs.Kinds.{tag_code, tag_from}
 use Rattle.chart.specs.Fields.{Field, signal, state, graph, trigger, effects, tag_of, contents, encode, encode_all, place_at}
 use Rattle.chart.specs.WellFormed.{every, well_formed}
-use Rattle.chart.specs.Files.{row_is, piece}
+use Rattle.chart.specs.Files.{is_row, piece}
 use Rattle.chart.specs.Lookup.{field_of, first_field, field_at}
 use Rattle.chart.specs.Stated.{stated_by, stated_if}
 use Rattle.chart.proofs.Bools.{both}
@@ -41,7 +41,7 @@ every_at (f ∷ fs) h zero l = (both (well_formed f) (every well_formed fs) h).0
 every_at (f ∷ fs) h (suc i) l = every_at fs (both (well_formed f) (every well_formed fs) h).1 i (omega arith)
 
 -- it is well formed
-pub formed_at : (fs : List Field) → row_is fs ≡ true → (i : ℕ) → i < length fs → well_formed (get_or fs i (graph 0)) ≡ true
+pub formed_at : (fs : List Field) → is_row fs ≡ true → (i : ℕ) → i < length fs → well_formed (get_or fs i (graph 0)) ≡ true
 formed_at fs h i l = every_at fs (good fs h).forms i l
 
 -- the bytes of the fields in front of it, its own, and those of the fields behind it
@@ -61,7 +61,7 @@ from_place : (fs : List Field) (i : ℕ) → i < length fs → drop (place_at fs
 from_place fs i l = ap (drop (place_at fs i)) (around fs i l) ∙ drop-append_seam (encode_all (take i fs)) (encode (get_or fs i (graph 0)) ++ encode_all (drop (suc i) fs))
 
 -- it stands at its place
-pub stands : (fs : List Field) → row_is fs ≡ true → (i : ℕ) → i < length fs → field_at (encode_all fs) (place_at fs i) ≡ Some (get_or fs i (graph 0))
+pub stands : (fs : List Field) → is_row fs ≡ true → (i : ℕ) → i < length fs → field_at (encode_all fs) (place_at fs i) ≡ Some (get_or fs i (graph 0))
 stands fs h i l = ap first_field (from_place fs i l) ∙ first_encoded (get_or fs i (graph 0)) (encode_all (drop (suc i) fs)) (formed_at fs h i l)
 
 -- the bytes from n behind its place on

@@ -11,7 +11,7 @@ use Rattle.chart.specs.WellFormed.{every, is_byte, well_formed}
 use Rattle.chart.specs.Order.{may_follow}
 use Rattle.chart.specs.Limits.{counts_of, exceeded}
 use Rattle.chart.specs.Decoding.{word_at, decode}
-use Rattle.chart.specs.Files.{row_is, Sized, Passes, piece, Faulty, cut_short, unknown_tag, out_of_order, not_allowed, beyond_limit, Refused, empty, too_long, at_field}
+use Rattle.chart.specs.Files.{is_row, Sized, Passes, piece, Faulty, cut_short, unknown_tag, out_of_order, not_allowed, beyond_limit, Refused, empty, too_long, at_field}
 use Rattle.chart.specs.Laws.{Written, FormatLaws}
 use Rattle.chart.specs.Lookup.{field_at}
 use Rattle.chart.specs.Reading.{formed, tagged, judge, unless_exceeded, limited, prepend, onward, read_from, read}

@@ -10,7 +10,7 @@ use Rattle.chart.specs.Fields.{Field, tag_of, contents, word, encode, encode_all
 use Rattle.chart.specs.WellFormed.{every, well_formed}
 use Rattle.chart.specs.Order.{may_follow, ordered}
 use Rattle.chart.specs.Limits.{counts_of, exceeded, within_limits}
-use Rattle.chart.specs.Files.{row_is, piece}
+use Rattle.chart.specs.Files.{is_row, piece}
 use Rattle.chart.specs.Decoding.{decode}
 use Rattle.chart.specs.Reading.{formed, tagged, judge, unless_exceeded, limited, prepend, onward, read_from}
 use Rattle.chart.proofs.Bools.{both, join}
@@ -43,13 +43,13 @@ pub record Good (fs : List Field) : Type 0 where
   pub forms : every well_formed fs ≡ true
   pub limits : exceeded (counts_of (reverse fs)) ≡ None
 
-pub good : (fs : List Field) → row_is fs ≡ true → Good fs
+pub good : (fs : List Field) → is_row fs ≡ true → Good fs
 good fs h =
     let r = both (ordered [] fs && every well_formed fs) (within_limits fs) h in
     let s = both (ordered [] fs) (every well_formed fs) r.0 in
     record { order = s.0; forms = s.1; limits = ap exceeded (counts_reverse fs) ∙ within_none fs r.1 }
 
-pub row : (fs : List Field) → Good fs → row_is fs ≡ true
+pub row : (fs : List Field) → Good fs → is_row fs ≡ true
 row fs g =
     join (ordered [] fs && every well_formed fs) (within_limits fs) (join (ordered [] fs) (every well_formed fs) g.order g.forms)
     (none_within fs (sym (ap exceeded (counts_reverse fs)) ∙ g.limits))
@@ -63,7 +63,7 @@ pub record Stands (before : List Field) (f : Field) : Type 0 where
   pub form : well_formed f ≡ true
   pub limits : exceeded (counts_of (f ∷ before)) ≡ None
 
-pub row_push : (fs : List Field) (f : Field) → row_is fs ≡ true → Stands (reverse fs) f → row_is (fs ++ (f ∷ [])) ≡ true
+pub row_push : (fs : List Field) (f : Field) → is_row fs ≡ true → Stands (reverse fs) f → is_row (fs ++ (f ∷ [])) ≡ true
 row_push fs f h s =
     let g = good fs h in
     row (fs ++ (f ∷ [])) (record {

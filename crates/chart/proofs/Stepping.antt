@@ -4,7 +4,7 @@ use lib.Seq.{take-append_seam}
 use Rattle.chart.specs.declared.refusals.Refusal.{Refusal}
 use Rattle.chart.specs.Kinds.{tag_code}
 use Rattle.chart.specs.Fields.{Field, tag_of, contents, encode, encode_all}
-use Rattle.chart.specs.Files.{row_is, Sized, Passes, piece, Faulty, Refused, at_field}
+use Rattle.chart.specs.Files.{is_row, Sized, Passes, piece, Faulty, Refused, at_field}
 use Rattle.chart.specs.Pieces.{Whole}
 use Rattle.chart.specs.Progress.{before}
 use Rattle.chart.specs.Reading.{read_from, or_none, row_of}
@@ -15,7 +15,7 @@ read_end zero p bs = refl
 read_end (suc m) p bs = refl
 
 -- the bytes of a row are read as that row
-pub read_row : (fs : List Field) (n : ℕ) → row_is fs ≡ true → length (encode_all fs) ≤ n → read_from n [] 0 (encode_all fs) ≡ Ok fs
+pub read_row : (fs : List Field) (n : ℕ) → is_row fs ≡ true → length (encode_all fs) ≤ n → read_from n [] 0 (encode_all fs) ≡ Ok fs
 read_row fs n h l =
     let g = good fs h in
     let m = n - length fs in
@@ -25,10 +25,10 @@ read_row fs n h l =
     ∙ along fs [] m 0 [] g.order g.forms g.limits
     ∙ ap (prepend_all fs) (read_end m (0 + length (encode_all fs)) (reverse fs)) ∙ prepend_ok fs
 
-pub row_of_lem : (fs : List Field) → row_is fs ≡ true → row_of (encode_all fs) ≡ fs
+pub row_of_lem : (fs : List Field) → is_row fs ≡ true → row_of (encode_all fs) ≡ fs
 row_of_lem fs h = ap or_none (read_row fs (length (encode_all fs)) h (omega arith))
 
-module _ (b : List ℕ) (at : ℕ) (within : at ≤ length b) (passed : encode_all (before b at) ≡ take at b) (row : row_is (before b at) ≡ true) where
+module _ (b : List ℕ) (at : ℕ) (within : at ≤ length b) (passed : encode_all (before b at) ≡ take at b) (row : is_row (before b at) ≡ true) where
   -- the place is the length of what was passed
   pub at_is : length (encode_all (before b at)) ≡ at
   at_is = ap length passed ∙ length-take-le at b within
@@ -66,7 +66,7 @@ module _ (b : List ℕ) (at : ℕ) (within : at ≤ length b) (passed : encode_a
         ap (λ n. take n b) (let e : at + 3 + length c ≡ at + (3 + length c) = omega arith in e) ∙ take-add at (3 + length c) b
         ∙ ap₂ (λ x y. x ++ y) (sym passed) (ap (take (3 + length c)) (sym is) ∙ front) ∙ sym (encode_push (before b at) f)
 
-    pub row_more : row_is (before b at ++ (f ∷ [])) ≡ true
+    pub row_more : is_row (before b at ++ (f ∷ [])) ≡ true
     row_more = row_push (before b at) f row stands
 
     -- one field more was passed

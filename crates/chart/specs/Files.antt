@@ -13,8 +13,8 @@ use Rattle.chart.specs.Limits.{counts_of, exceeded, within_limits}
 use Rattle.chart.specs.Decoding.{word_at, decode}
 
 -- Fields that may stand in a file, one after another, from its start: in order, each well formed, within the limits.
-abbrev pub row_is : List Field → Bool
-row_is fs = ordered [] fs && every well_formed fs && within_limits fs
+abbrev pub is_row : List Field → Bool
+is_row fs = ordered [] fs && every well_formed fs && within_limits fs
 
 pub record Sized (b : List ℕ) : Type 0 where
   pub some : 1 ≤ length b
@@ -23,7 +23,7 @@ pub record Sized (b : List ℕ) : Type 0 where
 -- The file is the concatenation of these fields' encodings.
 pub record Passes (b : List ℕ) (fs : List Field) : Type 0 where
   pub size : Sized b
-  pub row : row_is fs ≡ true
+  pub row : is_row fs ≡ true
   pub bytes : b ≡ encode_all fs
 
 -- a tag, a length and contents, whatever they are
@@ -44,4 +44,4 @@ pub data Faulty (before : List Field) (p : ℕ) (rest : List ℕ) : Refusal → 
 pub data Refused (b : List ℕ) : Refusal → Type 0 where
   empty : length b ≡ 0 → Refused b Empty
   too_long : 16384 < length b → Refused b (TooLong (length b))
-  at_field : (fs : List Field) (rest : List ℕ) {e : Refusal} → Sized b → row_is fs ≡ true → b ≡ encode_all fs ++ rest → Faulty (reverse fs) (length (encode_all fs)) rest e → Refused b e
+  at_field : (fs : List Field) (rest : List ℕ) {e : Refusal} → Sized b → is_row fs ≡ true → b ≡ encode_all fs ++ rest → Faulty (reverse fs) (length (encode_all fs)) rest e → Refused b e

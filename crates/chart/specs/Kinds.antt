@@ -40,8 +40,8 @@ flag_code true = 1
 -- And back: what a code stands for, if anything.
 
 -- the one of three with the codes 0, 1 and 2
-abbrev pub one_of_three_lem : {A : Type 0} → A → A → A → ℕ → Option A
-one_of_three_lem a b c n = cond (n == 0) (Some a) (cond (n == 1) (Some b) (cond (n == 2) (Some c) None))
+abbrev pub one_of_three : {A : Type 0} → A → A → A → ℕ → Option A
+one_of_three a b c n = cond (n == 0) (Some a) (cond (n == 1) (Some b) (cond (n == 2) (Some c) None))
 
 abbrev pub tag_from : ℕ → Option Tag
 tag_from n =
@@ -50,13 +50,13 @@ tag_from n =
     (cond (n == 7) (Some Effects) None))))))
 
 abbrev pub signal_kind_from : ℕ → Option SignalKind
-signal_kind_from = one_of_three_lem Input Output Internal
+signal_kind_from = one_of_three Input Output Internal
 
 abbrev pub state_kind_from : ℕ → Option StateKind
-state_kind_from = one_of_three_lem Simple Final Macro
+state_kind_from = one_of_three Simple Final Macro
 
 abbrev pub transition_kind_from : ℕ → Option TransitionKind
-transition_kind_from = one_of_three_lem Strong Weak Normal
+transition_kind_from = one_of_three Strong Weak Normal
 
 abbrev pub flag_from : ℕ → Option Bool
 flag_from n = cond (n == 0) (Some false) (cond (n == 1) (Some true) None)

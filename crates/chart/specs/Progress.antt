@@ -5,7 +5,7 @@ use Rattle.chart.specs.declared.limits.Counts.{Counts}
 use Rattle.chart.specs.declared.order.Stage.{Stage}
 use Rattle.chart.specs.declared.refusals.Refusal.{Refusal}
 use Rattle.chart.specs.Fields.{Field, encode_all}
-use Rattle.chart.specs.Files.{row_is, Passes, Refused}
+use Rattle.chart.specs.Files.{is_row, Passes, Refused}
 use Rattle.chart.specs.Limits.{counts_of}
 use Rattle.chart.specs.Reading.{row_of}
 use Rattle.chart.specs.Stages.{stage_of}
@@ -19,7 +19,7 @@ before b at = row_of (take at b)
 pub record Position (b : List ℕ) (at : ℕ) (stage : Stage) (counts : Counts) : Type 0 where
   pub within : at ≤ length b
   pub passed : encode_all (before b at) ≡ take at b
-  pub row : row_is (before b at) ≡ true
+  pub row : is_row (before b at) ≡ true
   pub staged : stage ≡ stage_of (reverse (before b at))
   pub counted : counts ≡ counts_of (reverse (before b at))
 

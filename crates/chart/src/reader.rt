@@ -1,7 +1,7 @@
 // The reader: it keeps its place in the file's bytes and gives the fields one by one.
 ghost use Rattle.std.specs.Prelude.{◌≡◌, ◌+◌, ◌≤◌, true, [], ◌∷◌, ◌++◌, reverse, length, take};
 ghost use Rattle.chart.specs.Fields.{encode_all};
-ghost use Rattle.chart.specs.Files.{row_is};
+ghost use Rattle.chart.specs.Files.{is_row};
 ghost use Rattle.chart.specs.Limits.{counts_of};
 ghost use Rattle.chart.specs.Progress.{before, Position, FieldAt, Next};
 ghost use Rattle.chart.specs.Reading.{judge as judged};
@@ -26,7 +26,7 @@ pub struct Reader<'a> {
     counts: Counts,
     ghost within: { at ≤ length bytes.now },
     ghost passed: { encode_all (before bytes.now at) ≡ take at bytes.now },
-    ghost row: { row_is (before bytes.now at) ≡ true },
+    ghost row: { is_row (before bytes.now at) ≡ true },
     ghost staged: { stage ≡ stage_of (reverse (before bytes.now at)) },
     ghost counted: { counts ≡ counts_of (reverse (before bytes.now at)) },
 }

@@ -1,6 +1,4 @@
 // Numbers in groups, one group for each key.
-#![tactic(auto)]
-
 ghost use Rattle.std.specs.Prelude.{ℕ, ◌+◌, ◌≤◌, length};
 ghost use Rattle.groups.specs.Numbers.{start_of};
 

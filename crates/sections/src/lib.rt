@@ -1,6 +1,4 @@
 // The sections of a listing: signals, states, transitions and suspensions.
-#![tactic(auto)]
-
 use loading::chart::Chart;
 use std::alloc::{AllocError, Global};
 use std::fmt;

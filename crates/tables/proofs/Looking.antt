@@ -1,7 +1,7 @@
 -- Fields looked up where their entries tell.
 use Rattle.std.proofs.Common.{◌≡◌, ℕ, zero, suc, ◌<◌, ◌≤◌, Bool, true, false, cond, ltb, List, [], ◌∷◌, length, Some, None, Option, sym, refl, ap, ◌∙◌, arith, ltb-false, ltb-true, lt-ltb}
 use Rattle.chart.specs.Fields.{Field, signal, state, graph, transition, suspension, trigger, effects, contents, encode_all, place_at}
-use Rattle.chart.specs.Files.{row_is}
+use Rattle.chart.specs.Files.{is_row}
 use Rattle.chart.specs.Lookup.{field_at}
 use Rattle.chart.proofs.Places.{stands, place_below}
 use Rattle.validity.specs.Parts.{bytes_in, at}
@@ -9,7 +9,7 @@ use Rattle.tables.specs.declared.rows.Entry.{Entry}
 use Rattle.tables.specs.Entries.{entry_at, entry_if, lookup}
 
 -- With its entry goes the field at its place.
-pub looked_up : (b : List ℕ) (fs : List Field) → row_is fs ≡ true → encode_all fs ≡ b → (i : ℕ) (e : Entry) → Some e ≡ entry_if fs i → field_at b e.place ≡ lookup fs i
+pub looked_up : (b : List ℕ) (fs : List Field) → is_row fs ≡ true → encode_all fs ≡ b → (i : ℕ) (e : Entry) → Some e ≡ entry_if fs i → field_at b e.place ≡ lookup fs i
 looked_up b fs row bytes i e h = go (ltb i (length fs)) refl
   where
     go : (t : Bool) → ltb i (length fs) ≡ t → field_at b e.place ≡ lookup fs i

@@ -4,7 +4,7 @@ use Rattle.chart.specs.declared.kinds.Tag as tag
 use Rattle.chart.specs.declared.kinds.StateKind.{StateKind}
 use Rattle.chart.specs.declared.kinds.TransitionKind.{TransitionKind}
 use Rattle.chart.specs.Fields.{Field, state, transition, suspension, is, place_at}
-use Rattle.validity.specs.Parts.{state_kind_in, number_in, edge_in_lem, bytes_in, at}
+use Rattle.validity.specs.Parts.{state_kind_in, number_in, edge_in, bytes_in, at}
 use Rattle.tables.specs.declared.rows.Span.{Span}
 use Rattle.tables.specs.declared.rows.State.{State}
 use Rattle.tables.specs.declared.rows.Transition.{Transition}
@@ -38,10 +38,10 @@ module _ (fs : List Field) (i : ℕ) where
       let trigger' = trigger ∙ ap (trigger_span_at fs) (plus i) in
       (λ j. Some (record { source = s; target = t; kind = k; immediate = im; trigger = trigger' j; effects = effects j }))
       ∙ ap (λ f. cond (is tag.TheVariants.Transition f) (Some (record {
-        source = (edge_in_lem f).source;
-        target = (edge_in_lem f).target;
-        kind = (edge_in_lem f).kind;
-        immediate = (edge_in_lem f).immediate;
+        source = (edge_in f).source;
+        target = (edge_in f).target;
+        kind = (edge_in f).kind;
+        immediate = (edge_in f).immediate;
         trigger = trigger_span_at fs (suc i);
         effects = (transition_at fs i).effects;
       })) None) is-transition

@@ -9,7 +9,7 @@ use Rattle.validity.specs.Tables.{trigger_at, effects_at, transition_index, trig
 use Rattle.validity.proofs.Bools.{clash}
 use Rattle.validity.proofs.Numbers.{Found, found, inside, as_state, as_trigger, as_effects}
 use Rattle.tables.specs.declared.rows.Span.{Span}
-use Rattle.tables.specs.Rows.{signal_kind_in, span_at, trigger_span_at, effects_span_at, transition_at, transition_row, state_row, no_span_lem}
+use Rattle.tables.specs.Rows.{signal_kind_in, span_at, trigger_span_at, effects_span_at, transition_at, transition_row, state_row, no_span}
 use Rattle.tables.specs.Spans.{spanned, spanned_if, spanned_or}
 use Rattle.tables.proofs.Beyond.{index_behind}
 use Rattle.tables.proofs.Looking.{at_behind}
@@ -111,5 +111,5 @@ module _ (fs : List Field) where
   pub none_sustained : (s : ℕ) → count (is State) fs ≤ s → [] ≡ sustained_by fs s
   none_sustained s l = let far = index_behind (is State) fs s l in sym (none_there (suc (state_index fs s)) (omega arith)).1
 
-pub none_spanned : (b : List ℕ) → spanned b no_span_lem ≡ []
+pub none_spanned : (b : List ℕ) → spanned b no_span ≡ []
 none_spanned b = ap (λ t. cond t [] []) (le-leb (0 + 0) (length b) (omega arith))

@@ -2,13 +2,13 @@
 use Rattle.std.proofs.Common.{◌≡◌, ℕ, ◌+◌, ◌*◌, ◌≤◌, true, List, [], ◌∷◌, length, None, sym, refl, ap, ◌∙◌, arith, length-append}
 use Rattle.chart.specs.declared.kinds.Tag as tag
 use Rattle.chart.specs.Fields.{Field, signal, state, graph, transition, suspension, trigger, effects, encode, encode_all, is}
-use Rattle.chart.specs.Files.{row_is}
+use Rattle.chart.specs.Files.{is_row}
 use Rattle.chart.specs.Limits.{bit, count, counts_of, exceeded}
 use Rattle.chart.proofs.Counting.{Within, within, counts_reverse}
 use Rattle.chart.proofs.Rows.{good}
 
 -- within the limits
-pub row_within : (fs : List Field) → row_is fs ≡ true → Within (counts_of fs)
+pub row_within : (fs : List Field) → is_row fs ≡ true → Within (counts_of fs)
 row_within fs h = within (counts_of fs) (ap exceeded (sym (counts_reverse fs)) ∙ (good fs h).limits)
 
 five : (f : Field) → 5 * bit (is tag.TheVariants.Suspension f) ≤ length (encode f)

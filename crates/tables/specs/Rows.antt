@@ -6,7 +6,7 @@ use Rattle.chart.specs.declared.kinds.SignalKind.TheVariants.{Internal}
 use Rattle.chart.specs.declared.kinds.StateKind.TheVariants.{Simple}
 use Rattle.chart.specs.declared.kinds.TransitionKind.TheVariants.{Strong}
 use Rattle.chart.specs.Fields.{Field, signal, state, graph, transition, suspension, trigger, effects, is, place_at}
-use Rattle.validity.specs.Parts.{state_kind_in, number_in, edge_in_lem, bytes_in, index_of, at}
+use Rattle.validity.specs.Parts.{state_kind_in, number_in, edge_in, bytes_in, index_of, at}
 use Rattle.validity.specs.Tables.{state_index, graph_index, transition_index, suspension_index}
 use Rattle.tables.specs.declared.rows.Span.{Span}
 use Rattle.tables.specs.declared.rows.Signal.{Signal}
@@ -49,10 +49,10 @@ module _ (fs : List Field) where
 
   abbrev pub transition_at : ℕ → Transition
   transition_at i = record {
-    source = (edge_in_lem (at fs i)).source;
-    target = (edge_in_lem (at fs i)).target;
-    kind = (edge_in_lem (at fs i)).kind;
-    immediate = (edge_in_lem (at fs i)).immediate;
+    source = (edge_in (at fs i)).source;
+    target = (edge_in (at fs i)).target;
+    kind = (edge_in (at fs i)).kind;
+    immediate = (edge_in (at fs i)).immediate;
     trigger = trigger_span_at (suc i);
     effects = cond (is tag.TheVariants.Trigger (at fs (suc i))) (effects_span_at (suc (suc i))) (effects_span_at (suc i));
   }
@@ -87,14 +87,14 @@ module _ (fs : List Field) where
 
 -- Rows that stand for nothing.
 
-abbrev pub no_span_lem : Span
-no_span_lem = record { start = 0; length = 0 }
+abbrev pub no_span : Span
+no_span = record { start = 0; length = 0 }
 
 abbrev pub no_signal : Signal
-no_signal = record { kind = Internal; name = no_span_lem }
+no_signal = record { kind = Internal; name = no_span }
 
 abbrev pub no_state : State
-no_state = record { kind = Simple; graph = 0; name = no_span_lem; effects = None }
+no_state = record { kind = Simple; graph = 0; name = no_span; effects = None }
 
 abbrev pub no_graph : Graph
 no_graph = record { owner = 0 }

@@ -4,7 +4,7 @@ use native.Mathlib.Decide.{dec_le, dec_lt}
 use Rattle.chart.specs.declared.kinds.Tag.TheVariants.{State, Graph, Transition, Trigger, Effects}
 use Rattle.chart.specs.Fields.{Field, signal, state, graph, transition, suspension, trigger, effects, is}
 use Rattle.chart.specs.Limits.{bit, count}
-use Rattle.validity.specs.Parts.{state_kind_in, number_in, edge_in_lem, bytes_in, index_of, at}
+use Rattle.validity.specs.Parts.{state_kind_in, number_in, edge_in, bytes_in, index_of, at}
 use Rattle.validity.proofs.Bools.{clash, decided}
 
 -- The field at j passes the test and has the number n among those that do.
@@ -92,7 +92,7 @@ as_graph (suspension s) h = absurd (clash h refl)
 as_graph (trigger p) h = absurd (clash h refl)
 as_graph (effects e) h = absurd (clash h refl)
 
-pub as_transition : (f : Field) → is Transition f ≡ true → f ≡ transition (edge_in_lem f).source (edge_in_lem f).target (edge_in_lem f).kind (edge_in_lem f).immediate
+pub as_transition : (f : Field) → is Transition f ≡ true → f ≡ transition (edge_in f).source (edge_in f).target (edge_in f).kind (edge_in f).immediate
 as_transition (signal k name) h = absurd (clash h refl)
 as_transition (state g k name) h = absurd (clash h refl)
 as_transition (graph o) h = absurd (clash h refl)

@@ -63,14 +63,14 @@ pub record Edge : Type 0 where
 abbrev pub no_edge : Edge
 no_edge = record { source = 0; target = 0; kind = Strong; immediate = false }
 
-abbrev pub edge_in_lem : Field → Edge
-edge_in_lem (signal k name) = no_edge
-edge_in_lem (state g k name) = no_edge
-edge_in_lem (graph o) = no_edge
-edge_in_lem (transition s t k i) = record { source = s; target = t; kind = k; immediate = i }
-edge_in_lem (suspension s) = no_edge
-edge_in_lem (trigger p) = no_edge
-edge_in_lem (effects e) = no_edge
+abbrev pub edge_in : Field → Edge
+edge_in (signal k name) = no_edge
+edge_in (state g k name) = no_edge
+edge_in (graph o) = no_edge
+edge_in (transition s t k i) = record { source = s; target = t; kind = k; immediate = i }
+edge_in (suspension s) = no_edge
+edge_in (trigger p) = no_edge
+edge_in (effects e) = no_edge
 
 -- a name, a trigger's postfix, the signal numbers of effects
 abbrev pub bytes_in : Field → List ℕ

@@ -7,7 +7,7 @@ use Rattle.chart.specs.Fields.{Field, is, is_input}
 use Rattle.chart.specs.Limits.{count}
 use Rattle.validity.specs.Ranges.{any_of, all_of, least_of, kept}
 use Rattle.validity.specs.Closure.{steps_along, leads}
-use Rattle.validity.specs.Parts.{is_final, is_macro, is_normal, state_kind_in, number_in, edge_in_lem, bytes_in, index_of, at}
+use Rattle.validity.specs.Parts.{is_final, is_macro, is_normal, state_kind_in, number_in, edge_in, bytes_in, index_of, at}
 
 module _ (fs : List Field) where
   -- the trigger, the effects that stand at i
@@ -76,16 +76,16 @@ module _ (fs : List Field) where
   transition_index t = index_of (is Transition) fs t
 
   abbrev pub source_of : ℕ → ℕ
-  source_of t = (edge_in_lem (at fs (transition_index t))).source
+  source_of t = (edge_in (at fs (transition_index t))).source
 
   abbrev pub target_of : ℕ → ℕ
-  target_of t = (edge_in_lem (at fs (transition_index t))).target
+  target_of t = (edge_in (at fs (transition_index t))).target
 
   abbrev pub transition_kind_of : ℕ → TransitionKind
-  transition_kind_of t = (edge_in_lem (at fs (transition_index t))).kind
+  transition_kind_of t = (edge_in (at fs (transition_index t))).kind
 
   abbrev pub is_immediate : ℕ → Bool
-  is_immediate t = (edge_in_lem (at fs (transition_index t))).immediate
+  is_immediate t = (edge_in (at fs (transition_index t))).immediate
 
   abbrev pub trigger_of : ℕ → Option (List ℕ)
   trigger_of t = trigger_at (suc (transition_index t))

@@ -6,7 +6,7 @@ use Rattle.std.proofs.lemmas.Bool.Decides.{nat_tests}
 use Rattle.chart.specs.declared.kinds.Tag.{Tag}
 use Rattle.chart.specs.declared.kinds.Tag.TheVariants.{Signal, State}
 use Rattle.chart.specs.Fields.{Field, signal, state, graph, transition, suspension, trigger, effects, is}
-use Rattle.chart.specs.Files.{row_is}
+use Rattle.chart.specs.Files.{is_row}
 use Rattle.chart.specs.Limits.{count}
 use Rattle.chart.specs.WellFormed.{every, between, is_name_byte, is_name, is_digit, is_word, well_formed}
 use Rattle.chart.proofs.Bools.{both}
@@ -52,7 +52,7 @@ state_text (effects e) h t = absurd (grind arith)
 
 -- The same by number; beyond the fields with the tag there is no byte.
 
-module _ (fs : List Field) (row : row_is fs ≡ true) where
+module _ (fs : List Field) (row : is_row fs ≡ true) where
   numbered : (t : Tag) → ((f : Field) → well_formed f ≡ true → is t f ≡ true → IsUtf8 (bytes_in f)) → (n : ℕ) → IsUtf8 (bytes_in (at fs (index_of (is t) fs n)))
   numbered t text n =
       elim (dec_lt n (count (is t) fs)) [

@@ -3,7 +3,7 @@ use Rattle.chart.specs.declared.kinds.Tag.TheVariants.{Transition}
 use Rattle.chart.specs.Fields.{graph, is, is_input}
 use Rattle.chart.specs.Kinds.{signal_kind_code}
 use Rattle.chart.specs.Limits.{count}
-use Rattle.validity.specs.Parts.{at, index_of, edge_in_lem}
+use Rattle.validity.specs.Parts.{at, index_of, edge_in}
 use Rattle.validity.specs.Tables.{transition_index, state_index}
 use Rattle.tables.specs.Rows.{transition_row, no_transition}
 use Rattle.tables.specs.Spans.{spanned, spanned_if, spanned_or}
@@ -37,4 +37,4 @@ returns-in-None c =
     let f = c.in-None.ensures.lookup in
     let above : count (is Transition) fs ≤ n = omega (arith, ltb-false, c.deref.ensures.len, c.args.self.now.transitions_counted) in
     let e : graph 0 ≡ at fs (index_of (is Transition) fs n) = beyond (is Transition) fs n above in
-    record { source = ap (λ f. (edge_in_lem f).source) e; target = ap (λ f. (edge_in_lem f).target) e; kind = ap (λ f. (edge_in_lem f).kind) e; immediate = ap (λ f. (edge_in_lem f).immediate) e; trigger = no_trigger fs n above; effects = none_emitted fs n above }
+    record { source = ap (λ f. (edge_in f).source) e; target = ap (λ f. (edge_in f).target) e; kind = ap (λ f. (edge_in f).kind) e; immediate = ap (λ f. (edge_in f).immediate) e; trigger = no_trigger fs n above; effects = none_emitted fs n above }
