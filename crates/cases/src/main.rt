@@ -1,6 +1,8 @@
 // Runs the first layer's test cases: each line of standard input is a name, a colon and a file's bytes in hexadecimal; a `#` begins a remark.
 // Bytes stand in parts with commas between them, and `N*` in front of a part repeats it. For each case one line tells how its file fares,
 // or, if its name begins with `show`, the listing of the file follows the name.
+#![tactic(auto)]
+
 use chart::files::{ReadError, read_fields};
 use listing::listing;
 use std::alloc::{AllocError, Global};

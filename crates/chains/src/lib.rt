@@ -1,4 +1,6 @@
 // The chain transitions of a chart, and which states they lead to which.
+#![tactic(auto)]
+
 ghost use Rattle.std.specs.Prelude.{◌≡◌, ℕ, ◌<◌, false, slice_index_or};
 ghost use Rattle.closure.specs.Rows.{told};
 ghost use Rattle.validity.specs.Parts.{is_normal};

@@ -1,4 +1,6 @@
 // The chart file: its fields, the reader that gives them one by one, and what the first layer of checks refuses.
+#![tactic(auto)]
+
 mod contents;
 pub mod fields;
 pub mod files;

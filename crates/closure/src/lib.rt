@@ -1,4 +1,6 @@
 // Which numbers lead to which along marked edges, as rows of bits.
+#![tactic(auto)]
+
 ghost use Rattle.std.specs.Prelude.{◌≡◌, ℕ, ◌<◌, ◌≤◌, min, ◌&&◌, ◌||◌, ◌==◌};
 ghost use Rattle.closure.specs.Rows.{in_row, holds, among, OnlyBelow, told};
 ghost use Rattle.closure.specs.Edges.{is_step, edge_step, edge_steps};

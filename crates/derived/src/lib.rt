@@ -1,4 +1,6 @@
 // What is derived from a chart's tables when the chart is loaded.
+#![tactic(auto)]
+
 ghost use Rattle.std.specs.Prelude.{◌≤◌, vec_capacity};
 ghost use Rattle.groups.specs.Lookup.{room_for_keys, room_for_numbers};
 

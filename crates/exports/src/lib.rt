@@ -1,4 +1,6 @@
 // Loading for callers in C and Rust: how a file fares, and how often it is loaded.
+#![tactic(auto)]
+
 ghost use Rattle.std.specs.Prelude.{◌≡◌, ◌⊎◌};
 ghost use Rattle.loading.specs.Loading.{loading};
 ghost use Rattle.exports.specs.Told.{no_memory, told, accepted};

@@ -1,4 +1,6 @@
 // Numbers in groups, one group for each key.
+#![tactic(auto)]
+
 ghost use Rattle.std.specs.Prelude.{ℕ, ◌+◌, ◌≤◌, length};
 ghost use Rattle.groups.specs.Numbers.{start_of};
 

@@ -1,4 +1,6 @@
 // Prints the listing of a chart file: of the one that the first argument names, or of chart.bin.
+#![tactic(auto)]
+
 use std::{env, fs, io};
 
 const DEFAULT: &str = "chart.bin";

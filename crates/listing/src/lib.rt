@@ -1,4 +1,6 @@
 // The listing of a chart file: what is in it, or why it is refused.
+#![tactic(auto)]
+
 ghost use Rattle.std.specs.Prelude.{IfOk, string_bytes};
 ghost use Rattle.chart.specs.Listing.{fields_in};
 ghost use Rattle.verdict.specs.Texts.{Told, Ends};

@@ -1,6 +1,8 @@
 // Runs test cases of loading: each line of standard input is a name, a colon and a file's bytes in hexadecimal; a `#` begins a remark.
 // Bytes stand in parts with commas between them, and `N*` in front of a part repeats it. All files are loaded into one chart, in turn,
 // and for each case one line tells how its file fares.
+#![tactic(auto)]
+
 use loading::chart::Chart;
 use std::alloc::{AllocError, Global};
 

@@ -1,4 +1,6 @@
 // Loads a chart file, the one that the first argument names or else chart.bin, and prints its listing, or why it is refused.
+#![tactic(auto)]
+
 use load_listing::report;
 use loading::chart::Chart;
 use std::{env, fs, io};

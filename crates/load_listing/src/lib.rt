@@ -1,4 +1,6 @@
 // The listing of a chart: what is in it, or why its file is refused.
+#![tactic(auto)]
+
 ghost use Rattle.std.specs.Prelude.{◌≡◌, [], is_ok, IfOk, if◌then◌else◌, string_bytes};
 ghost use Rattle.loading.specs.Loading.{loading as outcome_of};
 ghost use Rattle.loading.specs.Meaning.{copy_in, fields_for};

@@ -1,4 +1,6 @@
 // What is told of a chart file in a line: how much it holds, or why it is refused.
+#![tactic(auto)]
+
 ghost use Rattle.std.specs.Prelude.{IfOk, string_bytes};
 ghost use Rattle.load_verdict.specs.Texts.{Begins};
 

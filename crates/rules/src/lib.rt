@@ -1,4 +1,6 @@
 // The rules of a valid chart, checked over a file's tables: the first rule that some field breaks, at the first such field.
+#![tactic(auto)]
+
 pub mod all;
 mod cases;
 pub mod depth;

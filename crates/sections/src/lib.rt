@@ -1,4 +1,6 @@
 // The sections of a listing: signals, states, transitions and suspensions.
+#![tactic(auto)]
+
 use loading::chart::Chart;
 use std::alloc::{AllocError, Global};
 use std::fmt;
