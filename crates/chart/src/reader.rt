@@ -1,7 +1,7 @@
 // The reader: it keeps its place in the file's bytes and gives the fields one by one.
-ghost use Rattle.std.specs.Prelude.{◌≡◌, ◌+◌, ◌≤◌, true, [], ◌∷◌, ◌++◌, reverse, length, take};
+ghost use Rattle.std.specs.Prelude.{◌≡◌, ◌+◌, ◌≤◌, true, [], ◌∷◌, ◌++◌, reverse, length, take, OnOk};
 ghost use Rattle.chart.specs.Fields.{encode_all};
-ghost use Rattle.chart.specs.Files.{is_row};
+ghost use Rattle.chart.specs.Files.{is_row, Sized};
 ghost use Rattle.chart.specs.Limits.{counts_of};
 ghost use Rattle.chart.specs.Progress.{before, Position, FieldAt, Next};
 ghost use Rattle.chart.specs.Reading.{judge as judged};
@@ -48,6 +48,7 @@ impl<'a> Reader<'a> {
     pub fn next(&mut self) -> Result<Option<Placed<'a>>, Refusal>
         ensures same { self.new.bytes.now ≡ self.old.bytes.now }
         ensures next { Next self.old.bytes.now self.old.at result self.new.at }
+        ensures sized { OnOk result (Sized self.old.bytes.now) }
     {
         check_size(self.bytes)?;
         let place = self.at;
