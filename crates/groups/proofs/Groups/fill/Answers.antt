@@ -2,13 +2,13 @@ use Rattle.std.proofs.Common.{cond, is_ok, vec_items, vec_capacity}
 use Rattle.groups.proofs.Rows.{rises, stays, told}
 use Rattle.groups.proofs.Groups.fill.Goals as goal
 
-pub invariant-of-self : goal.invariant-of-self
-invariant-of-self c =
+pub invariant_of-self : goal.invariant_of-self
+invariant_of-self c =
     let keys = c.args.keys.now in
     let n = cond (is_ok c.refill.result) c.args.size 0 in
     let starts = vec_items c.refill.new.starts in
     let members = vec_items c.refill.new.members in
-    (rises keys n starts members c.refill.ensures.filled, (stays keys n starts members c.refill.ensures.filled, tt))
+    record { rise = rises keys n starts members c.refill.ensures.filled; within = stays keys n starts members c.refill.ensures.filled }
 
 pub returns : goal.returns
 returns c =

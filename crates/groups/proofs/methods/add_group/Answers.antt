@@ -4,8 +4,8 @@ use Rattle.groups.proofs.Those.{another, passes, fails}
 use Rattle.groups.proofs.methods.add_group.Goals as goal
 use Rattle.groups.proofs.methods.add_group.Goals.{then-keys-number, else-keys-number}
 
-pub push-reserved-requires : goal.push-reserved-requires
-push-reserved-requires c =
+pub push_reserved-requires : goal.push_reserved-requires
+push_reserved-requires c =
     let keys = c.args.keys.now in
     let key = c.args.key in
     let n = c.loop-number.number in
@@ -23,7 +23,7 @@ loop-number-preserved c =
     let test : ℕ → Bool = λ i. eqb (get_or keys i 0) key in
     elim c.if-keys-number.branch [
       | then-keys-number w ↦
-          let items : vec_items c.if-keys-number.members ≡ was ++ n ∷ [] = ap vec_items w.members-is ∙ w.push-reserved.ensures.items in
-          (passes first was (vec_items c.if-keys-number.members) n test (eq-eqb (get_or keys n 0) key w.if-keys-number.true) c.loop-number.invariant.0 items, ap vec_capacity w.members-is ∙ w.push-reserved.ensures.capacity ∙ c.loop-number.invariant.1)
+          let items : vec_items c.if-keys-number.members ≡ was ++ n ∷ [] = ap vec_items w.members-is ∙ w.push_reserved.ensures.items in
+          (passes first was (vec_items c.if-keys-number.members) n test (eq-eqb (get_or keys n 0) key w.if-keys-number.true) c.loop-number.invariant.0 items, ap vec_capacity w.members-is ∙ w.push_reserved.ensures.capacity ∙ c.loop-number.invariant.1)
       | else-keys-number w ↦ (ap vec_items w.members-is ∙ fails first was n test (ne_eqb (get_or keys n 0) key w.if-keys-number.false) c.loop-number.invariant.0, ap vec_capacity w.members-is ∙ c.loop-number.invariant.1)
     ]
