@@ -65,9 +65,9 @@ impl Tables {
 
 // A row for each field that makes one, in file order.
 fn fill<P: Part>(file: &ChartFile, rows: &mut Vec<P>)
-    requires { count makes (fields_in file.now) ≤ vec_capacity rows.old }
-    ensures counted { vec_len rows.new ≡ count makes (fields_in file.now) }
-    ensures told { (n : ℕ) (d : P) → n < vec_len rows.new → slice_index_or rows.new.items n d ≡ row (fields_in file.now) (index_of makes (fields_in file.now) n) }
+    requires { count P.makes (fields_in file.now) ≤ vec_capacity rows.old }
+    ensures counted { vec_len rows.new ≡ count P.makes (fields_in file.now) }
+    ensures told { (n : ℕ) (d : P) → n < vec_len rows.new → slice_index_or rows.new.items n d ≡ P.Part.row (fields_in file.now) (index_of P.makes (fields_in file.now) n) }
     ensures room { vec_capacity rows.old ≤ vec_capacity rows.new }
 {
     rows.clear();

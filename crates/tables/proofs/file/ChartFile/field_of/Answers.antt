@@ -7,4 +7,4 @@ use Rattle.tables.proofs.file.ChartFile.field_of.Goals as goal
 pub returns : goal.returns
 returns c =
     let f = c.args.self.now in
-    c.field-at.ensures ∙ ap (λ b. field_at b c.args.entry.place) c.as-slice.ensures.value ∙ looked_up (vec_items f.bytes) (fields_in f) f.row f.passed c.args.index c.args.entry c.requires
+    c.field_at.ensures ∙ ap (λ b. field_at b c.args.entry.place) c.as_slice.ensures.value ∙ looked_up (vec_items f.bytes) (fields_in f) f.row f.passed c.args.index c.args.entry c.requires

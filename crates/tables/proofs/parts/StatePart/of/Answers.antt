@@ -17,4 +17,4 @@ span-requires c =
 pub returns-in-State : goal.returns-in-State
 returns-in-State c =
     let s = c.in-State in
-    state_made (fields_in c.args.file.now) c.args.index s.graph s.kind s.name.now c.span.result c.effects-at.result (ap stated (sym s.is) ∙ c.requires.1) c.span.ensures.0 c.span.ensures.1 c.effects-at.ensures
+    state_made (fields_in c.args.file.now) c.args.index s.graph s.kind s.name.now c.span.result c.effects_at.result (ap stated (sym s.is) ∙ c.requires.1) c.span.ensures.0 c.span.ensures.1 c.effects_at.ensures

@@ -7,4 +7,4 @@ use Rattle.tables.proofs.parts.SuspensionPart.of.Goals as goal
 pub returns-in-Suspension : goal.returns-in-Suspension
 returns-in-Suspension c =
     let s = c.in-Suspension in
-    suspension_made (fields_in c.args.file.now) c.args.index s.state c.trigger-at.result (ap stated (sym s.is) ∙ c.requires.1) c.trigger-at.ensures
+    suspension_made (fields_in c.args.file.now) c.args.index s.state c.trigger_at.result (ap stated (sym s.is) ∙ c.requires.1) c.trigger_at.ensures

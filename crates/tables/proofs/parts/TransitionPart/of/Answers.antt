@@ -7,4 +7,4 @@ use Rattle.tables.proofs.parts.TransitionPart.of.Goals as goal
 pub returns-in-Transition : goal.returns-in-Transition
 returns-in-Transition c =
     let t = c.in-Transition in
-    transition_made (fields_in c.args.file.now) c.args.index t.source t.target t.kind t.immediate c.trigger-at.result c.effects-behind.result (ap stated (sym t.is) ∙ c.requires.1) c.trigger-at.ensures c.effects-behind.ensures
+    transition_made (fields_in c.args.file.now) c.args.index t.source t.target t.kind t.immediate c.trigger_at.result c.effects_behind.result (ap stated (sym t.is) ∙ c.requires.1) c.trigger_at.ensures c.effects_behind.ensures

@@ -9,7 +9,7 @@ pub add-requires : goal.add-requires
 add-requires g c =
     let fs = fields_in c.args.file.now in
     let v = c.loop-index.rows in
-    let below : c.loop-index.index < length fs = omega (arith, c.loop-index-test.true, c.field-count-index-end.ensures) in
+    let below : c.loop-index.index < length fs = omega (arith, c.loop-index-test.true, c.field_count-index-end.ensures) in
     let few = more_to_come g.P.Part.makes fs (g.P.Part.row fs) c.loop-index.index (vec_items v) c.in-Some-of.row below c.in-Some-of.ensures c.loop-index.invariant.0 in
     omega (arith, few, v.ok.0, c.requires, c.loop-index.invariant.1)
 
@@ -20,7 +20,7 @@ loop-index-preserved g c =
     let i = c.loop-index.index in
     let makes = g.P.Part.makes in
     let row = g.P.Part.row fs in
-    let below : i < length fs = omega (arith, c.loop-index-test.true, c.field-count-index-end.ensures) in
+    let below : i < length fs = omega (arith, c.loop-index-test.true, c.field_count-index-end.ensures) in
     elim c.match-field.branch [
       | in-Some+in-Some-of w ↦
           let more = filled_more makes fs row i (vec_items v) w.in-Some-of.row below w.in-Some-of.ensures c.loop-index.invariant.0 in
@@ -36,7 +36,7 @@ returns g c =
     let fs = fields_in c.args.file.now in
     let v = c.loop-index.rows in
     let f = c.loop-index.invariant.0 in
-    let end : length fs ≤ c.loop-index.index = omega (arith, c.loop-index-test.false, c.field-count-index-end.ensures) in
+    let end : length fs ≤ c.loop-index.index = omega (arith, c.loop-index-test.false, c.field_count-index-end.ensures) in
     record {
       counted = omega (arith, v.ok.0, filled_all g.P.Part.makes fs (g.P.Part.row fs) c.loop-index.index (vec_items v) end f);
       told = λ n d l. f.told n d (omega (arith, v.ok.0));
