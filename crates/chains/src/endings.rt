@@ -48,9 +48,9 @@ fn lets_end(tables: &Tables, ends: &[bool; 128], state: usize, graph: usize) -> 
 fn graph_may_end(tables: &Tables, reach: &Reach, graph: usize) -> bool
     ensures { result ≡ graph_may_end (fields_of tables.now) (told reach.now) graph }
 {
-    let initial = initial_state(tables, graph);
+    let first = initial_state(tables, graph);
     for state in 0..tables.state_count() {
-        if ends_at(tables, reach, initial, graph, state) {
+        if ends_at(tables, reach, first, graph, state) {
             return true;
         }
     }

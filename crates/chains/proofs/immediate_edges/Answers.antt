@@ -14,9 +14,9 @@ loop-transition-init c = let fs = fields_of c.args.tables.now in none_written fs
 pub loop-transition-preserved : goal.loop-transition-preserved
 loop-transition-preserved c =
     let fs = fields_of c.args.tables.now in
-    let e : Edge = record { source = c.source-of.result; target = c.target-of.result; marked = c.is-immediate.result } in
+    let e : Edge = record { source = c.source_of.result; target = c.target_of.result; marked = c.is_immediate.result } in
     let l : c.loop-transition.transition < 512 = omega arith in
-    one_written fs c.loop-transition.edges (is_immediate fs) c.loop-transition.transition e l c.loop-transition.invariant c.source-of.ensures c.target-of.ensures c.is-immediate.ensures
+    one_written fs c.loop-transition.edges (is_immediate fs) c.loop-transition.transition e l c.loop-transition.invariant c.source_of.ensures c.target_of.ensures c.is_immediate.ensures
 
 pub returns : goal.returns
 returns c =

@@ -9,17 +9,17 @@ use Rattle.chains.proofs.endings.graph_may_end.Goals as goal
 
 pub loop-state-preserved : goal.loop-state-preserved
 loop-state-preserved c =
-    any_more (ends_at (fields_of c.args.tables.now) (told c.args.reach.now) c.initial-state-initial.result c.args.graph) c.loop-state.state c.ends-at.result c.ends-at.ensures
-    c.loop-state.invariant c.if-ends-at.false
+    any_more (ends_at (fields_of c.args.tables.now) (told c.args.reach.now) c.initial_state-first.result c.args.graph) c.loop-state.state c.ends_at.result c.ends_at.ensures
+    c.loop-state.invariant c.if-ends_at.false
 
-pub returns-then-ends-at : goal.returns-then-ends-at
-returns-then-ends-at c =
+pub returns-then-ends_at : goal.returns-then-ends_at
+returns-then-ends_at c =
     let fs = fields_of c.args.tables.now in
-    let l : c.loop-state.state < states fs = omega (arith, c.state-count-state-end.ensures) in
-    ends_here fs (told c.args.reach.now) c.args.graph c.initial-state-initial.result c.initial-state-initial.ensures c.loop-state.state c.ends-at.result c.ends-at.ensures l c.if-ends-at.true
+    let l : c.loop-state.state < states fs = omega (arith, c.state_count-state-end.ensures) in
+    ends_here fs (told c.args.reach.now) c.args.graph c.initial_state-first.result c.initial_state-first.ensures c.loop-state.state c.ends_at.result c.ends_at.ensures l c.if-ends_at.true
 
 pub returns : goal.returns
 returns c =
     let fs = fields_of c.args.tables.now in
-    let e : c.loop-state.state ≡ states fs = omega (arith, c.state-count-state-end.ensures) in
-    ends_nowhere fs (told c.args.reach.now) c.args.graph c.initial-state-initial.result c.initial-state-initial.ensures c.loop-state.state e c.loop-state.invariant
+    let e : c.loop-state.state ≡ states fs = omega (arith, c.state_count-state-end.ensures) in
+    ends_nowhere fs (told c.args.reach.now) c.args.graph c.initial_state-first.result c.initial_state-first.ensures c.loop-state.state e c.loop-state.invariant

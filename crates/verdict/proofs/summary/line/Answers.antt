@@ -4,6 +4,6 @@ use Rattle.verdict.proofs.summary.line.Goals as goal
 
 pub returns : goal.returns
 returns c =
-    subst (λ line. IfOk c.counts-line.result (λ text. string_bytes text ≡ line))
+    subst (λ line. IfOk c.counts_line.result (λ text. string_bytes text ≡ line))
     (λ i. summary_line (c.count-signals.ensures i) (c.count-states.ensures i) (c.count-graphs.ensures i) (c.count-transitions.ensures i) (c.count-suspensions.ensures i))
-    c.counts-line.ensures
+    c.counts_line.ensures
