@@ -26,7 +26,7 @@ pub(crate) trait Rule {
 
 /// The first field that breaks the rule.
 pub(crate) fn first<R: Rule>(rule: &R, tables: &Tables) -> Option<Invalid>
-    ensures { result ≡ first_of (length (fields_of tables.now)) (λ i. located (place_at (fields_of tables.now) i) (breaks rule.now (fields_of tables.now) i)) }
+    ensures { result ≡ first_of (length (fields_of tables.now)) (λ i. located (place_at (fields_of tables.now) i) (R.breaks rule.now (fields_of tables.now) i)) }
 {
     for index in 0..tables.file().field_count() {
         if let Some(invalid) = fault_at(rule, tables, index) {
@@ -39,7 +39,7 @@ pub(crate) fn first<R: Rule>(rule: &R, tables: &Tables) -> Option<Invalid>
 // How the field with this index breaks the rule, and where it stands.
 fn fault_at<R: Rule>(rule: &R, tables: &Tables, index: usize) -> Option<Invalid>
     requires { index < length (fields_of tables.now) }
-    ensures { result ≡ located (place_at (fields_of tables.now) index) (breaks rule.now (fields_of tables.now) index) }
+    ensures { result ≡ located (place_at (fields_of tables.now) index) (R.breaks rule.now (fields_of tables.now) index) }
 {
     let entry = tables.file().entry(index)?;
     let field = tables.file().field(index)?;

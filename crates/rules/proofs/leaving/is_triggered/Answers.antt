@@ -7,7 +7,7 @@ use Rattle.rules.proofs.leaving.is_triggered.Goals as goal
 
 pub returns : goal.returns
 returns c =
-    c.is-trigger.ensures
+    c.is_trigger.ensures
     ∙ ap is_trigger_if c.field.ensures
     ∙ ap (λ f. is_trigger_if (lookup (fields_in f) (c.args.index + 1))) c.file.ensures
     ∙ followed (fields_of c.args.tables.now) c.args.index

@@ -9,4 +9,4 @@ pub loop-byte-preserved : goal.loop-byte-preserved
 loop-byte-preserved c = one_more c.args.signals c.args.postfix.now c.loop-byte.byte-index c.loop-byte.values (Ok c.in-Ok.left) c.loop-byte-test.true c.in-Ok.ensures ∙ c.loop-byte.invariant
 
 pub returns : goal.returns
-returns c = c.end-fault.ensures ∙ at_end c.args.signals c.args.postfix.now c.loop-byte.byte-index c.loop-byte.values c.loop-byte-test.false ∙ c.loop-byte.invariant
+returns c = c.end_fault.ensures ∙ at_end c.args.signals c.args.postfix.now c.loop-byte.byte-index c.loop-byte.values c.loop-byte-test.false ∙ c.loop-byte.invariant
