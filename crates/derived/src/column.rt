@@ -21,7 +21,7 @@ pub(crate) fn fill_column<V: Copy, C: Column<V> + Copy>(
 )
     requires { count ≤ vec_capacity values.old }
     ensures counted { vec_len values.new ≡ count }
-    ensures told { (n : ℕ) (d : V) → n < count → slice_index_or values.new.items n d ≡ value source n }
+    ensures told { (n : ℕ) (d : V) → n < count → slice_index_or values.new.items n d ≡ C.value source n }
     ensures room { vec_capacity values.new ≡ vec_capacity values.old }
 {
     values.clear();
@@ -39,7 +39,7 @@ pub(crate) fn fill_groups<C: Column<u16> + Copy>(
     groups: &mut Groups,
 )
     requires { (count ≤ vec_capacity keys.old) × ((HasRoom groups.old size count) × (count < 65536)) }
-    ensures told { (k : ℕ) → k < size → group groups.new k ≡ those count (λ n. nat_eq (value source n) k) }
+    ensures told { (k : ℕ) → k < size → group groups.new k ≡ those count (λ n. nat_eq (C.value source n) k) }
     ensures key_room { vec_capacity keys.new ≡ vec_capacity keys.old }
     ensures room { HasRoom groups.new (room_for_keys groups.old) (room_for_numbers groups.old) }
 {

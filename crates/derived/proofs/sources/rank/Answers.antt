@@ -5,8 +5,8 @@ use Rattle.derived.proofs.Bounds.{count_most, count_next}
 use Rattle.derived.proofs.sources.rank.Goals as goal
 use Rattle.derived.proofs.sources.rank.Goals.{then-leads, else-leads}
 
-pub overflow-add-rank : goal.overflow-add-rank
-overflow-add-rank c =
+pub overflow_add-rank : goal.overflow_add-rank
+overflow_add-rank c =
     let from = c.loop-from.from in
     omega (arith, c.loop-from.invariant, count_most from (λ x. told c.args.chains.now.reach x c.args.state), c.loop-from-test.true)
 

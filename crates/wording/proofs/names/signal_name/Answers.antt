@@ -6,5 +6,5 @@ use Rattle.wording.proofs.names.signal_name.Goals as goal
 pub returns : goal.returns
 returns c =
     let t = c.args.tables.now in
-    let e = c.signal-name.ensures in
+    let e = c.signal_name.ensures in
     c.text.ensures (subst IsUtf8 (sym e) (signal_name_text (fields_of t) t.file.row c.args.signal)) ∙ e

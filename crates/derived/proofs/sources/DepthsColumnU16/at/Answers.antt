@@ -5,8 +5,8 @@ use Rattle.tables.proofs.Within.{row_within}
 use Rattle.derived.proofs.Bounds.{depth_most}
 use Rattle.derived.proofs.sources.DepthsColumnU16.at.Goals as goal
 
-pub overflow-cast-result : goal.overflow-cast-result
-overflow-cast-result c =
+pub overflow_cast-result : goal.overflow_cast-result
+overflow_cast-result c =
     let t = c.args.self.now.tables.now in
     let fs = fields_of t in
     omega (arith, c.depth.ensures, depth_most fs (states fs) c.args.number, (row_within fs t.file.row).states)

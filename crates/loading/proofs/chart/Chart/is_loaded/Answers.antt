@@ -10,7 +10,7 @@ returns c =
     let f = self.tables.file in
     let b = copy_in self in
     let bytes : c.bytes.result.now ≡ b = c.bytes.ensures ∙ ap (λ f. vec_items f.bytes) c.file.ensures in
-    let told : not c.is-empty.result ≡ is_loaded self = ap not (c.is-empty.ensures ∙ ap (λ b. eqb (length b) 0) bytes) in
+    let told : not c.is_empty.result ≡ is_loaded self = ap not (c.is_empty.ensures ∙ ap (λ b. eqb (length b) 0) bytes) in
     record {
       told = told;
       sound = λ h.
