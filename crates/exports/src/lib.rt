@@ -5,7 +5,7 @@ ghost use Rattle.std.specs.Prelude.{◌≡◌, ◌⊎◌};
 ghost use Rattle.loading.specs.Loading.{loading};
 ghost use Rattle.exports.specs.Told.{no_memory, told, accepted};
 
-use loading::chart::Chart;
+use loading::charts::Chart;
 use std::alloc::Global;
 
 // In place of a refusal's number: there was no memory for a chart.

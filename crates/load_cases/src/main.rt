@@ -3,7 +3,7 @@
 // and for each case one line tells how its file fares.
 #![tactic(auto)]
 
-use loading::chart::Chart;
+use loading::charts::Chart;
 use std::alloc::{AllocError, Global};
 
 fn digit(c: char) -> Option<u8> {

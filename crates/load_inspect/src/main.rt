@@ -2,7 +2,7 @@
 #![tactic(auto)]
 
 use load_listing::report;
-use loading::chart::Chart;
+use loading::charts::Chart;
 use std::{env, fs, io};
 
 const DEFAULT: &str = "chart.bin";

@@ -7,7 +7,7 @@ ghost use Rattle.loading.specs.Meaning.{copy_in, fields_for};
 ghost use Rattle.load_verdict.specs.Texts.{Ends, Told};
 
 use load_verdict::{refusal_text, summary};
-use loading::chart::Chart;
+use loading::charts::Chart;
 use std::alloc::{AllocError, Global};
 
 /// All that is in a chart, and at the end how much it is.

@@ -3,7 +3,7 @@ use Rattle.std.specs.Prelude.{ℕ, Bool, not, List, length, vec_items, ◌==◌}
 use Rattle.chart.specs.Fields.{Field}
 use Rattle.validity.specs.Chart.{Chart as Meaning, chart_of}
 use Rattle.tables.specs.Views.{fields_of}
-use Rattle.loading.specs.declared.chart.Chart.{Chart}
+use Rattle.loading.specs.declared.charts.Chart.{Chart}
 
 -- the file that it keeps; no byte if it is empty
 abbrev pub copy_in : Chart → List ℕ

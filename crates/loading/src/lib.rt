@@ -1,6 +1,6 @@
 // Loading: a chart file becomes a chart, or is refused.
 #![tactic(auto)]
 
-pub mod chart;
+pub mod charts;
 pub mod laws;
 pub mod refusals;

@@ -1,7 +1,7 @@
 // The sections of a listing: signals, states, transitions and suspensions.
 #![tactic(auto)]
 
-use loading::chart::Chart;
+use loading::charts::Chart;
 use std::alloc::{AllocError, Global};
 use std::fmt;
 

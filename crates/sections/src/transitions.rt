@@ -2,7 +2,7 @@
 ghost use Rattle.std.specs.Prelude.{◌≤◌, length};
 
 use crate::NONE;
-use loading::chart::Chart;
+use loading::charts::Chart;
 use std::fmt;
 use tables::rows::Transition;
 use tables::tables::Tables;

@@ -1,6 +1,6 @@
 use Rattle.std.proofs.Common.{Ok, Err, vec_items, sym}
 use Rattle.loading.proofs.Deciding.{by_format, by_rules}
-use Rattle.loading.proofs.chart.loads.judge.Goals as goal
+use Rattle.loading.proofs.charts.loads.judge.Goals as goal
 
 pub returns-in-Err : goal.returns-in-Err
 returns-in-Err c = sym (by_format c.args.bytes.now c.in-Err.refusal c.in-Err.ensures.0)

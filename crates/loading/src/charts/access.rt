@@ -3,7 +3,7 @@ ghost use Rattle.std.specs.Prelude.{◌≡◌, true};
 ghost use Rattle.validity.specs.Sound.{Sound};
 ghost use Rattle.loading.specs.Meaning.{copy_in, is_loaded, meaning};
 
-use crate::chart::Chart;
+use crate::charts::Chart;
 use tables::tables::Tables;
 
 impl Chart {

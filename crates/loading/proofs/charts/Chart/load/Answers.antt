@@ -3,7 +3,7 @@ use Rattle.chart.specs.Reading.{row_of}
 use Rattle.closure.specs.Rows.{told}
 use Rattle.loading.specs.Derives.{numbers_in}
 use Rattle.loading.proofs.Deriving.{rank_is, may_keep_lem}
-use Rattle.loading.proofs.chart.Chart.load.Goals as goal
+use Rattle.loading.proofs.charts.Chart.load.Goals as goal
 
 pub invariant_of-self : goal.invariant_of-self
 invariant_of-self c =

@@ -2,7 +2,7 @@ use Rattle.std.proofs.Common.{◌≡◌, ◌<◌, not, eqb, length, vec_items, s
 use borrow.Author.Tests.{eqb-false, not-true}
 use Rattle.loading.specs.Meaning.{copy_in, is_loaded}
 use Rattle.loading.proofs.Keeping.{kept_sound}
-use Rattle.loading.proofs.chart.Chart.is_loaded.Goals as goal
+use Rattle.loading.proofs.charts.Chart.is_loaded.Goals as goal
 
 pub returns : goal.returns
 returns c =

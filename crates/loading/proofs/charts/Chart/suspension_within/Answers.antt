@@ -4,7 +4,7 @@ use Rattle.derived.specs.Columns.{suspension_at}
 use Rattle.derived.specs.Suspended.{suspension_span}
 use Rattle.loading.specs.Meaning.{copy_in, fields_for}
 use Rattle.loading.proofs.Deriving.{same_numbers, suspension_told}
-use Rattle.loading.proofs.chart.Chart.suspension_within.Goals as goal
+use Rattle.loading.proofs.charts.Chart.suspension_within.Goals as goal
 
 pub returns : goal.returns
 returns c =

@@ -6,7 +6,7 @@ ghost use Rattle.validity.specs.Tables.{is_in};
 ghost use Rattle.tables.specs.Spans.{spanned_if};
 ghost use Rattle.loading.specs.Meaning.{copy_in, fields_for, meaning};
 
-use crate::chart::Chart;
+use crate::charts::Chart;
 use tables::rows::Span;
 
 impl Chart {

@@ -4,7 +4,7 @@ ghost use Rattle.tables.specs.Views.{fields_of};
 ghost use Rattle.loading.specs.Judged.{Judged};
 ghost use Rattle.loading.specs.Loading.{loading};
 
-use crate::chart::Chart;
+use crate::charts::Chart;
 use crate::refusals::Refusal;
 use chains::Chains;
 use derived::Derived;
