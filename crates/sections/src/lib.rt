@@ -3,7 +3,6 @@
 
 use loading::charts::Chart;
 use std::alloc::{AllocError, Global};
-use std::fmt;
 
 mod outline;
 mod signals;
@@ -16,13 +15,11 @@ const NONE: &str = "  none\n";
 
 pub fn all(heap: Global, chart: &Chart) -> Result<String, AllocError> {
     let mut text = String::new(heap);
-    match push_all(chart, &mut text) {
-        Ok(()) => Ok(text),
-        Err(_) => Err(AllocError),
-    }
+    push_all(chart, &mut text)?;
+    Ok(text)
 }
 
-fn push_all(chart: &Chart, text: &mut String) -> fmt::Result {
+fn push_all(chart: &Chart, text: &mut String) -> Result<(), AllocError> {
     let tables = chart.tables();
     signals::push(tables, text)?;
     states::push(tables, text)?;

@@ -1,15 +1,15 @@
 // The section on signals.
 use crate::NONE;
-use std::fmt;
+use std::alloc::AllocError;
 use tables::tables::Tables;
 use wording::kinds::signal_word;
 use wording::names::signal_name;
 
-pub(crate) fn push(tables: &Tables, text: &mut String) -> fmt::Result {
-    text.write("signals:\n")?;
+pub(crate) fn push(tables: &Tables, text: &mut String) -> Result<(), AllocError> {
+    text.push_str("signals:\n")?;
     let signals = tables.signals();
     if signals.is_empty() {
-        return text.write(NONE);
+        return text.push_str(NONE);
     }
     for (number, signal) in signals.iter().enumerate() {
         let kind = signal_word(signal.kind);

@@ -3,7 +3,7 @@ ghost use Rattle.std.specs.Prelude.{◌≤◌, length};
 
 use crate::NONE;
 use loading::charts::Chart;
-use std::fmt;
+use std::alloc::AllocError;
 use tables::rows::Transition;
 use tables::tables::Tables;
 use wording::effects::push_effects;
@@ -11,11 +11,11 @@ use wording::kinds::transition_word;
 use wording::names::state_name;
 use wording::triggers::push_condition;
 
-pub(crate) fn push(chart: &Chart, text: &mut String) -> fmt::Result {
-    text.write("transitions:\n")?;
+pub(crate) fn push(chart: &Chart, text: &mut String) -> Result<(), AllocError> {
+    text.push_str("transitions:\n")?;
     let transitions = chart.tables().transitions();
     if transitions.is_empty() {
-        return text.write(NONE);
+        return text.push_str(NONE);
     }
     for (number, transition) in transitions.iter().enumerate() {
         let priority = count_from(&transitions[0..number], transition.source) + 1;
@@ -43,7 +43,7 @@ fn push_line(
     priority: usize,
     transition: &Transition,
     text: &mut String,
-) -> fmt::Result {
+) -> Result<(), AllocError> {
     let tables = chart.tables();
     let kind = transition_word(transition.kind);
     let immediate = if transition.immediate {
@@ -59,11 +59,15 @@ fn push_line(
     push_ends(tables, transition, text)?;
     push_condition(tables, tables.trigger_of(number), text)?;
     push_effects(tables, tables.emitted_by(number), text)?;
-    text.write("\n")
+    text.push_str("\n")
 }
 
 /// Where the transition leads from and to.
-fn push_ends(tables: &Tables, transition: &Transition, text: &mut String) -> fmt::Result {
+fn push_ends(
+    tables: &Tables,
+    transition: &Transition,
+    text: &mut String,
+) -> Result<(), AllocError> {
     let source = transition.source;
     let target = transition.target;
     let source_name = state_name(tables, source as usize);

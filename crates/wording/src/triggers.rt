@@ -2,7 +2,7 @@
 ghost use Rattle.std.specs.Prelude.{◌≤◌, length};
 
 use crate::names::signal_name;
-use std::fmt;
+use std::alloc::AllocError;
 use tables::tables::Tables;
 
 const AND: u8 = 128;
@@ -25,10 +25,14 @@ enum Place {
 }
 
 /// ` when` and the trigger, or nothing if there is none.
-pub fn push_condition(tables: &Tables, trigger: Option<&[u8]>, text: &mut String) -> fmt::Result {
+pub fn push_condition(
+    tables: &Tables,
+    trigger: Option<&[u8]>,
+    text: &mut String,
+) -> Result<(), AllocError> {
     match trigger {
         Some(postfix) => {
-            text.write(" when ")?;
+            text.push_str(" when ")?;
             push_infix(tables, postfix, Place::Open, text)
         }
         None => Ok(()),
@@ -36,36 +40,41 @@ pub fn push_condition(tables: &Tables, trigger: Option<&[u8]>, text: &mut String
 }
 
 /// A trigger, or a part of one, in infix.
-fn push_infix(tables: &Tables, postfix: &[u8], place: Place, text: &mut String) -> fmt::Result {
+fn push_infix(
+    tables: &Tables,
+    postfix: &[u8],
+    place: Place,
+    text: &mut String,
+) -> Result<(), AllocError> {
     let [operands @ .., last] = postfix else {
         return Ok(());
     };
     let is_loose = is_loose(*last, place);
     if is_loose {
-        text.write("(")?;
+        text.push_str("(")?;
     }
     match *last {
         AND => {
             let (left, right) = operands.split_at(last_operand(operands));
             push_infix(tables, left, Place::Joined, text)?;
-            text.write(" and ")?;
+            text.push_str(" and ")?;
             push_infix(tables, right, Place::Tight, text)?;
         }
         OR => {
             let (left, right) = operands.split_at(last_operand(operands));
             push_infix(tables, left, Place::Open, text)?;
-            text.write(" or ")?;
+            text.push_str(" or ")?;
             push_infix(tables, right, Place::Joined, text)?;
         }
         NOT => {
-            text.write("not ")?;
+            text.push_str("not ")?;
             push_infix(tables, operands, Place::Tight, text)?;
         }
-        YES => text.write("yes")?,
-        signal => text.write(signal_name(tables, signal as usize))?,
+        YES => text.push_str("yes")?,
+        signal => text.push_str(signal_name(tables, signal as usize))?,
     }
     if is_loose {
-        text.write(")")?;
+        text.push_str(")")?;
     }
     Ok(())
 }
