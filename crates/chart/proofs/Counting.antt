@@ -1,13 +1,12 @@
 -- Counts of fields and limits.
-use Rattle.std.proofs.Common.{◌≡◌, ℕ, ◌+◌, ◌≤◌, Bool, true, false, cond, not, ltb, List, [], ◌∷◌, ◌++◌, reverse, is_some, Some, None, Option, sym, refl, ap, ◌∙◌, subst, arith, ltb-false, le-ltb}
+use Rattle.std.proofs.Common.{◌≡◌, ◌+◌, ◌≤◌, Bool, true, not, List, [], ◌∷◌, reverse, is_some, Some, None, Option, refl, ap, arith, le-ltb}
 use mathlib.Core.List.{reverse_aux}
 use Rattle.std.proofs.lemmas.Bool.Decides.{nat_tests}
 use Rattle.chart.specs.declared.limits.Counts.{Counts}
 use Rattle.chart.specs.declared.kinds.Tag.TheVariants.{Signal, State, Graph, Transition}
 use Rattle.chart.specs.declared.refusals.Limit.{Limit}
-use Rattle.chart.specs.declared.refusals.Limit.TheVariants.{Signals, Inputs, States, Graphs, Transitions}
 use Rattle.chart.specs.Fields.{Field, is, is_input}
-use Rattle.chart.specs.Limits.{bit, count, counts_of, exceeded, within_limits}
+use Rattle.chart.specs.Limits.{count, counts_of, exceeded, within_limits}
 
 -- the fields put one by one in front of others
 pub count_onto : (p : Field → Bool) (fs bs : List Field) → count p (reverse_aux fs bs) ≡ count p fs + count p bs

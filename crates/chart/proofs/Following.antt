@@ -1,5 +1,5 @@
 -- The reader's stage tells what may follow, in place of all the fields in front.
-use Rattle.std.proofs.Common.{◌≡◌, ℕ, Bool, true, false, ◌&&◌, ◌||◌, List, [], ◌∷◌, ◌++◌, reverse, drop, sym, refl, ap, ◌∙◌}
+use Rattle.std.proofs.Common.{◌≡◌, true, ◌&&◌, ◌||◌, List, [], ◌∷◌, reverse, drop, sym, refl, ◌∙◌}
 use mathlib.Core.List.{reverse_aux}
 use borrow.Author.Tests.{clash}
 use Rattle.chart.specs.declared.kinds.Tag.{Tag}
@@ -11,7 +11,7 @@ use Rattle.chart.specs.Fields.{Field, signal, state, graph, transition, suspensi
 use Rattle.chart.specs.WellFormed.{every}
 use Rattle.chart.specs.Order.{nearest, is_behaviour, is_structure, may_follow, ordered}
 use Rattle.chart.specs.Stages.{in_signals, before_behaviour, takes_trigger, takes_effects, admits, stage_of}
-use Rattle.chart.proofs.Bools.{both, join}
+use Rattle.chart.proofs.Bools.{both}
 
 -- each of the fields, nearest first, may stand where it does
 abbrev Behind : List Field → Type 0

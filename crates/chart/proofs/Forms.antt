@@ -1,12 +1,11 @@
 -- One field to bytes and back.
-use Rattle.std.proofs.Common.{◌≡◌, ℕ, zero, suc, ◌+◌, ◌*◌, ◌<◌, ◌≤◌, Bool, true, false, cond, ◌&&◌, eqb, List, [], ◌∷◌, length, get_or, drop, Some, None, Ok, Err, Option, Result, sym, refl, ap, ◌∙◌, subst, ap₂, arith, ne_eqb, eqb-true}
+use Rattle.std.proofs.Common.{◌≡◌, ℕ, zero, suc, ◌+◌, ◌*◌, ◌<◌, ◌≤◌, Bool, true, false, ◌&&◌, eqb, List, [], ◌∷◌, length, get_or, Some, None, Ok, Option, Result, sym, refl, ap, ◌∙◌, subst, ap₂, arith, ne_eqb, eqb-true}
 use Rattle.chart.specs.declared.kinds.Tag.{Tag}
 use Rattle.chart.specs.declared.kinds.Tag.TheVariants.{Signal, State, Graph, Transition, Suspension, Trigger, Effects}
 use Rattle.chart.specs.declared.kinds.SignalKind.{SignalKind}
 use Rattle.chart.specs.declared.kinds.SignalKind.TheVariants.{Input, Output, Internal}
 use Rattle.chart.specs.declared.kinds.StateKind.{StateKind}
 use Rattle.chart.specs.declared.kinds.StateKind.TheVariants.{Simple, Final, Macro}
-use Rattle.chart.specs.declared.kinds.TransitionKind.{TransitionKind}
 use Rattle.chart.specs.declared.kinds.TransitionKind.TheVariants.{Strong, Weak, Normal}
 use Rattle.chart.specs.declared.refusals.Part.{Part}
 use Rattle.chart.specs.declared.refusals.Part.TheVariants.{Length, Kind, Flag, Name}
@@ -15,7 +14,7 @@ use Rattle.chart.specs.Fields.{Field, signal, state, graph, transition, suspensi
 use Rattle.chart.specs.WellFormed.{every, between, is_name, is_word, is_byte, well_formed}
 use Rattle.chart.specs.Decoding.{provided, given, word_at, word_in, named_signal, named_state, decode}
 use Rattle.chart.specs.Laws.{Written}
-use Rattle.chart.proofs.Bools.{both, join, cond_case}
+use Rattle.chart.proofs.Bools.{both, join}
 use Rattle.chart.proofs.Bytes.{byte_first, byte_rest, byte_at, halves, word_back, word_short}
 
 -- Codes.

@@ -1,7 +1,7 @@
 -- Fields gathered one by one, with their places.
-use Rattle.std.proofs.Common.{◌≡◌, ℕ, ◌+◌, ◌-◌, ◌<◌, ◌≤◌, ◌⊎◌, List, [], ◌∷◌, ◌++◌, map, length, get_or, take, drop, sym, refl, ap, ◌∙◌, subst, inl, inr, arith, length-append}
+use Rattle.std.proofs.Common.{◌≡◌, ℕ, ◌<◌, List, [], ◌∷◌, ◌++◌, length, get_or, take, sym, refl, ap, ◌∙◌, inl, inr, arith}
 use lib.ListN.{length-map}
-use lib.Seq.{take-append-le, take-append_seam, take-length}
+use lib.Seq.{take-append-le, take-append_seam}
 use Rattle.std.proofs.lemmas.List.{map-append, get_or_append_left, get_or_push, length_push}
 use Rattle.std.proofs.str.Laws.{order}
 use Rattle.chart.specs.declared.fields.Placed.{Placed}

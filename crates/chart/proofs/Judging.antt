@@ -1,5 +1,5 @@
 -- What a judgement of one field says.
-use Rattle.std.proofs.Common.{◌≡◌, ℕ, zero, suc, ◌≤◌, Bool, true, false, cond, eqb, List, [], ◌∷◌, ◌++◌, Some, None, Ok, Err, Option, Result, sym, refl, ap, ◌∙◌, subst, arith, ne_eqb}
+use Rattle.std.proofs.Common.{◌≡◌, ℕ, zero, suc, ◌≤◌, Bool, true, false, cond, List, ◌∷◌, ◌++◌, Some, None, Ok, Err, Option, Result, sym, refl, ap, ◌∙◌, subst, arith, ne_eqb}
 use Rattle.chart.specs.declared.kinds.Tag.{Tag}
 use Rattle.chart.specs.declared.kinds.Tag.TheVariants.{Signal, State, Graph, Transition, Suspension, Trigger, Effects}
 use Rattle.chart.specs.declared.refusals.Limit.{Limit}
@@ -7,13 +7,13 @@ use Rattle.chart.specs.declared.refusals.Part.{Part}
 use Rattle.chart.specs.declared.refusals.Refusal.{Refusal}
 use Rattle.chart.specs.declared.refusals.Refusal.TheVariants.{UnknownTag, OutOfOrder, NotAllowed, BeyondLimit}
 use Rattle.chart.specs.Kinds.{tag_code, tag_from}
-use Rattle.chart.specs.Fields.{Field, tag_of, contents}
-use Rattle.chart.specs.WellFormed.{every, is_byte, well_formed}
+use Rattle.chart.specs.Fields.{Field, tag_of}
+use Rattle.chart.specs.WellFormed.{every, is_byte}
 use Rattle.chart.specs.Order.{may_follow}
 use Rattle.chart.specs.Limits.{counts_of, exceeded}
 use Rattle.chart.specs.Decoding.{decode}
 use Rattle.chart.specs.Files.{piece, Faulty, unknown_tag, out_of_order, not_allowed, beyond_limit}
-use Rattle.chart.specs.Reading.{formed, tagged, judge, unless_exceeded, limited}
+use Rattle.chart.specs.Reading.{formed, tagged, judge}
 use Rattle.chart.specs.Laws.{Written}
 use Rattle.chart.proofs.Forms.{tag_back, written}
 use Rattle.chart.proofs.Rows.{Stands}

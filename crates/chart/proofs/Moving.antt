@@ -1,5 +1,5 @@
 -- What the reader's next call finds, from where it stands.
-use Rattle.std.proofs.Common.{◌≡◌, ℕ, ◌+◌, ◌/◌, ◌%◌, ◌<◌, ◌≤◌, Bool, true, List, [], ◌∷◌, ◌++◌, reverse, length, take, drop, Some, None, Ok, Err, Option, Result, sym, refl, ap, ◌∙◌, subst, ap₂, arith}
+use Rattle.std.proofs.Common.{◌≡◌, ℕ, ◌+◌, ◌/◌, ◌%◌, ◌<◌, ◌≤◌, true, List, [], ◌∷◌, ◌++◌, reverse, length, drop, Some, None, Ok, Err, Option, sym, refl, ap, ◌∙◌, subst, arith}
 use Rattle.chart.specs.declared.kinds.Tag.{Tag}
 use Rattle.chart.specs.declared.limits.Counts.{Counts}
 use Rattle.chart.specs.declared.order.Stage.{Stage}
@@ -7,7 +7,7 @@ use Rattle.chart.specs.declared.refusals.Limit.{Limit}
 use Rattle.chart.specs.declared.refusals.Refusal.{Refusal}
 use Rattle.chart.specs.declared.refusals.Refusal.TheVariants.{CutShort, BeyondLimit}
 use Rattle.chart.specs.Kinds.{tag_code}
-use Rattle.chart.specs.Fields.{Field, tag_of, word, encode_all}
+use Rattle.chart.specs.Fields.{Field, tag_of, word}
 use Rattle.chart.specs.WellFormed.{every, is_byte}
 use Rattle.chart.specs.Order.{may_follow}
 use Rattle.chart.specs.Limits.{counts_of, exceeded, added, unless, raised}

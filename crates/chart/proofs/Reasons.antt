@@ -1,5 +1,5 @@
 -- Why files pass or are refused: the definitions in words and the computation agree.
-use Rattle.std.proofs.Common.{◌≡◌, ℕ, zero, suc, pred, ◌+◌, ◌-◌, ◌*◌, ◌<◌, ◌≤◌, Bool, true, false, cond, eqb, ltb, ◌⊎◌, ◌↔◌, List, [], ◌∷◌, ◌++◌, reverse, length, take, drop, Some, None, Ok, Err, Option, Result, sym, refl, ap, ◌∙◌, subst, ap₂, inl, inr, arith, length-append, ltb-false, ltb-true, le-ltb, lt-ltb, eq-eqb, ne_eqb, eqb-true}
+use Rattle.std.proofs.Common.{◌≡◌, ℕ, suc, ◌+◌, ◌-◌, ◌*◌, ◌<◌, ◌≤◌, Bool, true, false, cond, eqb, ltb, ◌⊎◌, ◌↔◌, List, [], ◌∷◌, ◌++◌, reverse, length, take, drop, Some, None, Ok, Err, Option, Result, sym, refl, ap, ◌∙◌, subst, ap₂, inl, inr, arith, length-append, ltb-false, ltb-true, le-ltb, lt-ltb, eq-eqb, ne_eqb, eqb-true}
 use borrow.Author.Tests.{eqb-false}
 use Rattle.chart.specs.declared.kinds.Tag.{Tag}
 use Rattle.chart.specs.declared.refusals.Part.{Part}
@@ -7,20 +7,19 @@ use Rattle.chart.specs.declared.refusals.Refusal.{Refusal}
 use Rattle.chart.specs.declared.refusals.Refusal.TheVariants.{Empty, TooLong, CutShort, UnknownTag, OutOfOrder, NotAllowed, BeyondLimit}
 use Rattle.chart.specs.Kinds.{tag_code, tag_from}
 use Rattle.chart.specs.Fields.{Field, tag_of, contents, encode_all, place_at}
-use Rattle.chart.specs.WellFormed.{every, is_byte, well_formed}
+use Rattle.chart.specs.WellFormed.{every, is_byte}
 use Rattle.chart.specs.Order.{may_follow}
-use Rattle.chart.specs.Limits.{counts_of, exceeded}
 use Rattle.chart.specs.Decoding.{word_at, decode}
-use Rattle.chart.specs.Files.{is_row, Sized, Passes, piece, Faulty, cut_short, unknown_tag, out_of_order, not_allowed, beyond_limit, Refused, empty, too_long, at_field}
+use Rattle.chart.specs.Files.{Sized, Passes, piece, Faulty, cut_short, unknown_tag, out_of_order, not_allowed, beyond_limit, Refused, empty, too_long, at_field}
 use Rattle.chart.specs.Laws.{Written, FormatLaws}
 use Rattle.chart.specs.Lookup.{field_at}
-use Rattle.chart.specs.Reading.{formed, tagged, judge, unless_exceeded, limited, prepend, onward, read_from, read}
+use Rattle.chart.specs.Reading.{formed, tagged, judge, unless_exceeded, limited, onward, read_from, read}
 use Rattle.chart.proofs.Forms.{tag_back, decoded, written}
 use Rattle.chart.proofs.Judging.{tag_code_lem}
 use Rattle.chart.proofs.Places.{stands}
 use Rattle.chart.proofs.Rows.{good, row, read_piece, along, prepend_all, prepend_err, fields_bytes}
 use Rattle.chart.proofs.Stepping.{read_row}
-use Rattle.chart.proofs.Telling.{RowBehind, Stopped, Outcome, tell}
+use Rattle.chart.proofs.Telling.{Outcome, tell}
 
 unknown : (code : ℕ) → ((t : Tag) → tag_code t ≡ code → ⊥) → tag_from code ≡ None
 unknown code h = go (tag_from code) refl

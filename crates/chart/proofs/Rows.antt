@@ -1,12 +1,12 @@
 -- Rows of fields and the bytes that they are written in.
-use Rattle.std.proofs.Common.{◌≡◌, ℕ, zero, suc, ◌+◌, ◌*◌, ◌/◌, ◌%◌, ◌<◌, ◌≤◌, Bool, true, false, cond, ◌&&◌, ltb, List, [], ◌∷◌, ◌++◌, reverse, length, take, drop, Some, None, Ok, Err, Result, sym, refl, ap, ◌∙◌, subst, ap₂, append_assoc, append-nil, arith, length-append, le-ltb}
+use Rattle.std.proofs.Common.{◌≡◌, ℕ, suc, ◌+◌, ◌*◌, ◌≤◌, Bool, true, cond, ◌&&◌, ltb, List, [], ◌∷◌, ◌++◌, reverse, length, take, drop, None, Ok, Err, Result, sym, refl, ap, ◌∙◌, ap₂, append_assoc, append-nil, arith, length-append, le-ltb}
 use mathlib.Core.List.{reverse_aux}
 use lib.Seq.{take-append_seam, drop-append_seam}
 use Rattle.std.proofs.lemmas.List.{reverse-append}
 use Rattle.chart.specs.declared.refusals.Refusal.{Refusal}
 use Rattle.chart.specs.declared.refusals.Refusal.TheVariants.{CutShort, OutOfOrder}
-use Rattle.chart.specs.Kinds.{tag_code, tag_from}
-use Rattle.chart.specs.Fields.{Field, tag_of, contents, word, encode, encode_all}
+use Rattle.chart.specs.Kinds.{tag_code}
+use Rattle.chart.specs.Fields.{Field, tag_of, contents, encode, encode_all}
 use Rattle.chart.specs.WellFormed.{every, well_formed}
 use Rattle.chart.specs.Order.{may_follow, ordered}
 use Rattle.chart.specs.Limits.{counts_of, exceeded, within_limits}

@@ -1,17 +1,16 @@
 -- What reading tells of the bytes: they are the encodings of a row, or have a fault behind one.
-use Rattle.std.proofs.Common.{◌≡◌, ℕ, zero, suc, ◌+◌, ◌*◌, ◌<◌, ◌≤◌, Bool, true, false, cond, ◌&&◌, ltb, ◌⊎◌, List, [], ◌∷◌, ◌++◌, length, take, drop, Some, None, Ok, Err, Option, Result, sym, refl, ap, ◌∙◌, subst, ap₂, inl, inr, append_assoc, arith, length-append, length-drop, length-take, ltb-false, ltb-true}
+use Rattle.std.proofs.Common.{◌≡◌, ℕ, zero, suc, ◌+◌, ◌*◌, ◌≤◌, Bool, true, false, cond, ltb, List, [], ◌∷◌, ◌++◌, length, take, drop, Some, None, Ok, Err, Option, Result, sym, refl, ap, ◌∙◌, subst, ap₂, append_assoc, arith, length-append, length-drop, length-take, ltb-false, ltb-true}
 use mathlib.Core.List.{reverse_aux}
 use Rattle.chart.specs.declared.refusals.Limit.{Limit}
 use Rattle.chart.specs.declared.refusals.Refusal.{Refusal}
 use Rattle.chart.specs.declared.refusals.Refusal.TheVariants.{CutShort, BeyondLimit}
-use Rattle.chart.specs.Kinds.{tag_code}
 use Rattle.chart.specs.Fields.{Field, tag_of, contents, encode, encode_all}
 use Rattle.chart.specs.WellFormed.{every, is_byte, well_formed}
 use Rattle.chart.specs.Order.{may_follow, ordered}
 use Rattle.chart.specs.Limits.{counts_of, exceeded}
 use Rattle.chart.specs.Files.{piece, Faulty, cut_short}
 use Rattle.chart.specs.Reading.{judge, unless_exceeded, limited, prepend, onward, read_from}
-use Rattle.chart.proofs.Bools.{join, decided}
+use Rattle.chart.proofs.Bools.{join}
 use Rattle.chart.proofs.Bytes.{byte_first, byte_rest, take_bytes, drop_bytes}
 use Rattle.chart.proofs.Cutting.{split}
 use Rattle.chart.proofs.Judging.{judged, judged_fault, judged_written, judged_stands, limit_fault}

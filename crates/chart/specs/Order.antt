@@ -1,5 +1,5 @@
 -- What may follow what: signals; then states and graphs; then transitions and suspensions. Assumes nothing.
-use Rattle.std.specs.Prelude.{ℕ, Bool, true, false, not, ◌&&◌, ◌||◌, List, [], ◌∷◌, drop}
+use Rattle.std.specs.Prelude.{Bool, true, false, not, ◌&&◌, ◌||◌, List, [], ◌∷◌, drop}
 use Rattle.chart.specs.declared.kinds.Tag.{Tag}
 use Rattle.chart.specs.declared.kinds.Tag.TheVariants.{Signal, State, Graph, Transition, Suspension, Trigger, Effects}
 use Rattle.chart.specs.Fields.{Field, is, is_simple_state, tag_of}

@@ -1,5 +1,5 @@
 -- The reader's view of the order of fields: where it stands, in place of all the fields in front. Assumes nothing.
-use Rattle.std.specs.Prelude.{ℕ, Bool, true, false, List, [], ◌∷◌}
+use Rattle.std.specs.Prelude.{Bool, true, false, List, [], ◌∷◌}
 use Rattle.chart.specs.declared.kinds.Tag.{Tag}
 use Rattle.chart.specs.declared.kinds.Tag as tag
 use Rattle.chart.specs.declared.kinds.StateKind.TheVariants.{Simple, Final, Macro}

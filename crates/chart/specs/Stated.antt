@@ -1,5 +1,5 @@
 -- What a field that borrows from the file states: the bytes in place of the references. Assumes nothing.
-use Rattle.std.specs.Prelude.{ℕ, List, Some, None, Ok, Err, Option, Result}
+use Rattle.std.specs.Prelude.{Some, None, Ok, Err, Option, Result}
 use Rattle.chart.specs.declared.fields.Field.{Field as Lent}
 use Rattle.chart.specs.declared.fields.Field.TheVariants.{Signal, State, Graph, Transition, Suspension, Trigger, Effects}
 use Rattle.chart.specs.Fields.{Field, signal, state, graph, transition, suspension, trigger, effects}

@@ -1,5 +1,5 @@
 -- How a file that was read is judged.
-use Rattle.std.proofs.Common.{◌≡◌, ℕ, List, Ok, Err, Result, sym, refl, ap, ◌∙◌}
+use Rattle.std.proofs.Common.{◌≡◌, ℕ, List, Err, Result, sym, ap, ◌∙◌}
 use Rattle.chart.specs.declared.refusals.Refusal.{Refusal as Format}
 use Rattle.chart.specs.Files.{Passes, Refused}
 use Rattle.chart.specs.Reading.{row_of}

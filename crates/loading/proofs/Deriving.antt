@@ -1,5 +1,5 @@
 -- What is derived from a chart's tables, in terms of the chart.
-use Rattle.std.proofs.Common.{◌≡◌, ℕ, suc, ◌<◌, Bool, true, false, cond, eqb, List, [], ◌∷◌, length, is_ok, Some, None, Ok, Option, sym, refl, ap, ◌∙◌, arith}
+use Rattle.std.proofs.Common.{◌≡◌, ℕ, suc, Bool, true, false, cond, eqb, List, length, is_ok, Some, None, Ok, Option, refl, ap, arith}
 use Rattle.chart.specs.Reading.{row_of}
 use Rattle.validity.specs.Outcome.{outcome}
 use Rattle.loading.specs.Kept.{may_keep}

@@ -1,5 +1,5 @@
 -- A file that a chart keeps is that of a sound chart.
-use Rattle.std.proofs.Common.{◌≡◌, ℕ, ◌<◌, ◌≤◌, Bool, true, false, cond, eqb, List, length, is_ok as isOk, Ok, Err, Result, sym, refl, ap, ◌∙◌, arith, ne_eqb}
+use Rattle.std.proofs.Common.{◌≡◌, ℕ, ◌<◌, ◌≤◌, true, cond, List, length, is_ok as isOk, Ok, Err, Result, sym, refl, ap, ◌∙◌, arith, ne_eqb}
 use Rattle.chart.specs.Fields.{encode_all}
 use Rattle.chart.specs.Files.{is_row, Passes}
 use Rattle.chart.specs.Reading.{row_of}

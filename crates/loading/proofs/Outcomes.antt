@@ -1,20 +1,18 @@
 -- What is loaded and what is refused, both ways.
-use Rattle.std.proofs.Common.{◌≡◌, ℕ, true, ◌⊎◌, ◌↔◌, List, Ok, Err, Result, sym, refl, ap, ◌∙◌, subst, inl, inr, arith}
+use Rattle.std.proofs.Common.{◌≡◌, ℕ, true, ◌⊎◌, List, Ok, Err, Result, sym, refl, ap, ◌∙◌, subst, inl, inr, arith}
 use Rattle.chart.specs.declared.refusals.Refusal.{Refusal as Format}
 use Rattle.chart.specs.Fields.{Field}
-use Rattle.chart.specs.Files.{Passes, Refused}
+use Rattle.chart.specs.Files.{Passes}
 use Rattle.chart.specs.Reading.{read, row_of}
 use Rattle.chart.specs.WellFormed.{every, is_byte}
 use Rattle.chart.proofs.Reasons.{passes_read, refused_read, format_laws_lem}
 use Rattle.chart.proofs.Stepping.{row_of_lem}
 use Rattle.validity.specs.declared.faults.Invalid.{Invalid as Breach}
 use Rattle.validity.specs.Chart.{chart_of}
-use Rattle.validity.specs.Outcome.{Faultless, outcome}
-use Rattle.validity.specs.Outcome as rules
+use Rattle.validity.specs.Outcome.{outcome}
 use Rattle.validity.specs.Sound.{Sound}
 use Rattle.validity.proofs.Outcomes.{validity_laws_lem}
 use Rattle.loading.specs.declared.refusals.Refusal.{Refusal}
-use Rattle.loading.specs.declared.refusals.Refusal.TheVariants.{Malformed, Invalid}
 use Rattle.loading.specs.Laws.{LoadingLaws}
 use Rattle.loading.specs.Loading.{Loads, RefusedSo, malformed, invalid, judged, after_reading, loading}
 

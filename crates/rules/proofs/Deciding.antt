@@ -1,5 +1,5 @@
 -- The outcome of the six rules, with that on rings last.
-use Rattle.std.proofs.Common.{◌≡◌, ℕ, Bool, List, length, Some, None, Ok, Err, Option, sym, refl, ap, ◌∙◌, ap₂}
+use Rattle.std.proofs.Common.{◌≡◌, ℕ, Bool, List, length, None, Option, sym, ◌∙◌, ap₂}
 use Rattle.chart.specs.Fields.{Field, place_at}
 use Rattle.validity.specs.declared.faults.Invalid.{Invalid}
 use Rattle.validity.specs.Numbering.{rings}

@@ -1,8 +1,7 @@
 -- What the tables tell of a number that nothing has.
-use Rattle.std.proofs.Common.{◌≡◌, ℕ, zero, suc, ◌+◌, ◌<◌, ◌≤◌, Bool, true, false, cond, eqb, List, [], ◌∷◌, length, sym, refl, ap, ◌∙◌, inl, inr, arith}
-use Rattle.chart.specs.declared.kinds.Tag.{Tag}
+use Rattle.std.proofs.Common.{◌≡◌, ℕ, zero, suc, ◌≤◌, Bool, cond, eqb, List, [], ◌∷◌, length, sym, refl, ap, ◌∙◌, inl, inr, arith}
 use Rattle.chart.specs.Kinds.{signal_kind_code}
-use Rattle.chart.specs.Fields.{Field, signal, state, graph, transition, suspension, trigger, effects, is, is_input}
+use Rattle.chart.specs.Fields.{Field, signal, state, graph, transition, suspension, trigger, effects, is_input}
 use Rattle.tables.specs.Rows.{signal_kind_in}
 use Rattle.chart.specs.Limits.{bit, count}
 use Rattle.validity.specs.Parts.{index_of, at}

@@ -1,14 +1,11 @@
 -- Rows made of fields.
-use Rattle.std.proofs.Common.{◌≡◌, ℕ, suc, ◌+◌, ◌<◌, ◌≤◌, Bool, true, false, cond, List, length, Some, None, Option, sym, refl, ap, ◌∙◌, arith}
+use Rattle.std.proofs.Common.{◌≡◌, ℕ, suc, ◌+◌, Bool, true, false, cond, List, length, Some, None, Option, sym, refl, ap, ◌∙◌, arith}
 use Rattle.chart.specs.declared.kinds.Tag as tag
 use Rattle.chart.specs.declared.kinds.StateKind.{StateKind}
 use Rattle.chart.specs.declared.kinds.TransitionKind.{TransitionKind}
 use Rattle.chart.specs.Fields.{Field, state, transition, suspension, is, place_at}
 use Rattle.validity.specs.Parts.{state_kind_in, number_in, edge_in, bytes_in, at}
 use Rattle.tables.specs.declared.rows.Span.{Span}
-use Rattle.tables.specs.declared.rows.State.{State}
-use Rattle.tables.specs.declared.rows.Transition.{Transition}
-use Rattle.tables.specs.declared.rows.Suspension.{Suspension}
 use Rattle.tables.specs.Rows.{span_at, trigger_span_at, effects_span_at, state_at, transition_at, suspension_at}
 
 plus : (i : ℕ) → i + 1 ≡ suc i

@@ -1,15 +1,15 @@
 -- Spans tell the names, triggers and effects of the fields.
-use Rattle.std.proofs.Common.{◌≡◌, ℕ, suc, ◌+◌, ◌<◌, ◌≤◌, Bool, true, false, cond, leb, List, [], length, take, drop, Some, None, Option, sym, refl, ap, ◌∙◌, subst, arith, le-leb}
-use Rattle.chart.specs.declared.kinds.Tag.TheVariants.{Signal, State, Transition, Suspension, Trigger, Effects}
+use Rattle.std.proofs.Common.{◌≡◌, ℕ, suc, ◌+◌, ◌<◌, ◌≤◌, Bool, true, false, cond, List, [], length, take, drop, Some, None, sym, refl, ap, ◌∙◌, arith, le-leb}
+use Rattle.chart.specs.declared.kinds.Tag.TheVariants.{Signal, State, Transition, Trigger, Effects}
 use Rattle.chart.specs.Fields.{Field, signal, state, graph, transition, suspension, trigger, effects, contents, encode_all, is, place_at}
 use Rattle.chart.specs.Limits.{count}
 use Rattle.chart.proofs.Places.{place_below, signal_name_at, state_name_at, trigger_at_lem, effects_at_lem}
 use Rattle.validity.specs.Parts.{bytes_in, number_in, state_kind_in, index_of, at}
 use Rattle.validity.specs.Tables.{trigger_at, effects_at, transition_index, trigger_of, emitted_by, state_index, sustained_by}
 use Rattle.validity.proofs.Bools.{clash}
-use Rattle.validity.proofs.Numbers.{Found, found, inside, as_state, as_trigger, as_effects}
+use Rattle.validity.proofs.Numbers.{found, inside, as_state, as_trigger, as_effects}
 use Rattle.tables.specs.declared.rows.Span.{Span}
-use Rattle.tables.specs.Rows.{signal_kind_in, span_at, trigger_span_at, effects_span_at, transition_at, transition_row, state_row, no_span}
+use Rattle.tables.specs.Rows.{signal_kind_in, span_at, trigger_span_at, effects_span_at, transition_row, no_span}
 use Rattle.tables.specs.Spans.{spanned, spanned_if, spanned_or}
 use Rattle.tables.proofs.Beyond.{index_behind}
 use Rattle.tables.proofs.Looking.{at_behind}

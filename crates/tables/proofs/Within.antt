@@ -1,5 +1,5 @@
 -- How many parts a chart file has at most.
-use Rattle.std.proofs.Common.{◌≡◌, ℕ, ◌+◌, ◌*◌, ◌≤◌, true, List, [], ◌∷◌, length, None, sym, refl, ap, ◌∙◌, arith, length-append}
+use Rattle.std.proofs.Common.{◌≡◌, ◌*◌, ◌≤◌, true, List, [], ◌∷◌, length, sym, ap, ◌∙◌, arith, length-append}
 use Rattle.chart.specs.declared.kinds.Tag as tag
 use Rattle.chart.specs.Fields.{Field, signal, state, graph, transition, suspension, trigger, effects, encode, encode_all, is}
 use Rattle.chart.specs.Files.{is_row}

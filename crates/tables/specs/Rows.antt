@@ -1,5 +1,5 @@
 -- The rows of a chart's tables, by index of a field and by number. Assumes nothing.
-use Rattle.std.specs.Prelude.{ℕ, suc, ◌+◌, Bool, false, cond, List, length, Some, None, Option}
+use Rattle.std.specs.Prelude.{ℕ, suc, ◌+◌, false, cond, List, length, Some, None, Option}
 use Rattle.chart.specs.declared.kinds.Tag as tag
 use Rattle.chart.specs.declared.kinds.SignalKind.{SignalKind}
 use Rattle.chart.specs.declared.kinds.SignalKind.TheVariants.{Internal}

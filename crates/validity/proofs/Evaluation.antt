@@ -1,5 +1,5 @@
 -- A trigger has no fault exactly if it is the postfix of an expression that needs at most eight stacked values.
-use Rattle.std.proofs.Common.{◌≡◌, ℕ, zero, suc, pred, ◌+◌, ◌<◌, ◌≤◌, max, Bool, true, false, cond, ◌&&◌, eqb, ltb, ◌⊎◌, ◌↔◌, List, [], ◌∷◌, ◌++◌, length, Some, None, Ok, Err, Option, Result, sym, refl, ap, ◌∙◌, subst, ap₂, inl, inr, append_assoc, append-nil, arith, ltb-false, ltb-true, le-ltb, lt-ltb, ne_eqb, eqb-true}
+use Rattle.std.proofs.Common.{◌≡◌, ℕ, suc, pred, ◌+◌, ◌<◌, ◌≤◌, Bool, true, false, cond, ltb, ◌↔◌, List, [], ◌∷◌, ◌++◌, length, Some, None, Ok, Err, Option, sym, refl, ap, ◌∙◌, subst, inl, inr, append_assoc, append-nil, arith, ltb-true, le-ltb, lt-ltb, ne_eqb}
 use Rattle.std.proofs.str.Laws.{order}
 use Rattle.validity.specs.declared.faults.Fault.{Fault}
 use Rattle.validity.specs.declared.faults.Fault.TheVariants.{UnknownOperator, MissingOperand, TooManyStacked, NotOneValue}

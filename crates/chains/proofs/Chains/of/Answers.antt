@@ -5,7 +5,6 @@ use Rattle.tables.proofs.Within.{row_within}
 use Rattle.chains.specs.Marks.{MarkedBy}
 use Rattle.chains.specs.declared.Chains.{Chains}
 use Rattle.chains.proofs.Levels.{Turned, turned_at, next_marks, no_change, last_level, chain_told, leads_told}
-use Rattle.validity.specs.Tables.{is_chain}
 use Rattle.chains.proofs.Chains.of.Goals as goal
 
 pub loop-turn-init : goal.loop-turn-init

@@ -1,4 +1,4 @@
-use Rattle.std.proofs.Common.{◌≡◌, ℕ, suc, ◌+◌, ◌<◌, length, Some, None, Option, sym, ap, ◌∙◌, arith}
+use Rattle.std.proofs.Common.{◌≡◌, ℕ, suc, ◌+◌, ◌<◌, length, Option, sym, ap, ◌∙◌, arith}
 use Rattle.chart.specs.Fields.{place_at}
 use Rattle.validity.specs.declared.faults.Invalid.{Invalid}
 use Rattle.validity.specs.Outcome.{located}

@@ -1,6 +1,5 @@
 use Rattle.std.proofs.Common.{arith}
 use Rattle.closure.specs.Rows.{told}
-use Rattle.validity.specs.Tables.{states}
 use Rattle.tables.specs.Views.{fields_of}
 use Rattle.tables.proofs.Within.{row_within}
 use Rattle.derived.proofs.Bounds.{count_most}

@@ -1,4 +1,4 @@
-use Rattle.std.proofs.Common.{◌≡◌, ◌<◌, not, eqb, length, vec_items, sym, ap, ◌∙◌, arith}
+use Rattle.std.proofs.Common.{◌≡◌, not, eqb, length, vec_items, sym, ap, ◌∙◌, arith}
 use borrow.Author.Tests.{eqb-false, not-true}
 use Rattle.loading.specs.Meaning.{copy_in, is_loaded}
 use Rattle.loading.proofs.Keeping.{kept_sound}

@@ -1,4 +1,4 @@
-use Rattle.std.proofs.Common.{◌≡◌, ◌+◌, ◌<◌, ◌≤◌, [], ◌∷◌, ◌++◌, length, Ok, vec_items, vec_len, vec_capacity, sym, ap, ◌∙◌, subst, subst₂, arith}
+use Rattle.std.proofs.Common.{◌≡◌, ◌+◌, ◌≤◌, [], ◌∷◌, ◌++◌, length, Ok, vec_items, sym, ap, ◌∙◌, subst, subst₂, arith}
 use Rattle.std.proofs.lemmas.List.{length_push}
 use Rattle.chart.specs.declared.kinds.Tag.TheVariants.{State, Graph, Transition, Suspension}
 use Rattle.chart.specs.Fields.{encode_all, is}
@@ -7,7 +7,7 @@ use Rattle.chart.specs.Stated.{stated}
 use Rattle.chart.proofs.Rows.{fields_bytes}
 use Rattle.chart.proofs.Stepping.{at_is}
 use Rattle.tables.specs.declared.rows.Entry.{Entry}
-use Rattle.tables.specs.Entries.{behind, counted, Entered}
+use Rattle.tables.specs.Entries.{Entered}
 use Rattle.tables.proofs.Entering.{Counted, counted_more, count_most, is_behind, entered_more}
 use Rattle.tables.proofs.file.copying.enter.Goals as goal
 

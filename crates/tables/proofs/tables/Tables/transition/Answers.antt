@@ -1,12 +1,11 @@
-use Rattle.std.proofs.Common.{◌≡◌, suc, ◌<◌, ◌≤◌, eqb, get_or, vec_items, vec_len, refl, ap, ◌∙◌, arith, ltb-false}
+use Rattle.std.proofs.Common.{◌≡◌, suc, ◌<◌, ◌≤◌, get_or, vec_items, vec_len, ap, ◌∙◌, arith, ltb-false}
 use Rattle.chart.specs.declared.kinds.Tag.TheVariants.{Transition}
-use Rattle.chart.specs.Fields.{graph, is, is_input}
-use Rattle.chart.specs.Kinds.{signal_kind_code}
+use Rattle.chart.specs.Fields.{graph, is}
 use Rattle.chart.specs.Limits.{count}
 use Rattle.validity.specs.Parts.{at, index_of, edge_in}
-use Rattle.validity.specs.Tables.{transition_index, state_index}
+use Rattle.validity.specs.Tables.{transition_index}
 use Rattle.tables.specs.Rows.{transition_row, no_transition}
-use Rattle.tables.specs.Spans.{spanned, spanned_if, spanned_or}
+use Rattle.tables.specs.Spans.{spanned_if, spanned_or}
 use Rattle.tables.specs.Views.{fields_of}
 use Rattle.tables.proofs.Beyond.{beyond}
 use Rattle.tables.proofs.Spanning.{trigger_spanned, emitted_spanned, no_trigger, none_emitted}

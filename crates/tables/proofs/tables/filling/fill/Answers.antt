@@ -1,4 +1,4 @@
-use Rattle.std.proofs.Common.{◌≡◌, ◌+◌, ◌<◌, ◌≤◌, cond, length, vec_items, vec_len, vec_capacity, sym, ap, ◌∙◌, subst, arith}
+use Rattle.std.proofs.Common.{◌+◌, ◌<◌, ◌≤◌, length, vec_items, vec_capacity, sym, ap, ◌∙◌, subst, arith}
 use Rattle.tables.specs.Views.{fields_in}
 use Rattle.tables.proofs.Filling.{Filled, filled_more, filled_same, filled_all, more_to_come}
 use Rattle.tables.proofs.Looking.{not_behind}

@@ -1,4 +1,4 @@
-use Rattle.std.proofs.Common.{◌≡◌, ◌≤◌, length, vec_items, vec_capacity}
+use Rattle.std.proofs.Common.{◌≤◌, vec_items, vec_capacity}
 use Rattle.tables.specs.Views.{fields_in}
 use Rattle.tables.proofs.Filling.{Filled}
 use Rattle.tables.proofs.tables.filling.fill.Given as goal
