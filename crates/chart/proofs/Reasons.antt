@@ -11,7 +11,7 @@ use Rattle.chart.specs.WellFormed.{every, is_byte}
 use Rattle.chart.specs.Order.{may_follow}
 use Rattle.chart.specs.Decoding.{word_at, decode}
 use Rattle.chart.specs.Files.{Sized, Passes, piece, Faulty, cut_short, unknown_tag, out_of_order, not_allowed, beyond_limit, Refused, empty, too_long, at_field}
-use Rattle.chart.specs.Laws.{Written, FormatLaws}
+use Rattle.chart.specs.Laws.{Written, FormatLaws, LookupLaws}
 use Rattle.chart.specs.Lookup.{field_at}
 use Rattle.chart.specs.Reading.{formed, tagged, judge, unless_exceeded, limited, onward, read_from, read}
 use Rattle.chart.proofs.Forms.{tag_back, decoded, written}
@@ -159,5 +159,7 @@ format_laws_lem = record {
   not_both = λ b fs e p q. apart fs e (sym (passes_read b fs p) ∙ refused_read b e q);
   passes = λ b h fs. (λ e. subst (Holds b) e (holds b h), passes_read b fs);
   refuses = λ b h e. (λ r. subst (Holds b) r (holds b h), refused_read b e);
-  at_place = λ b fs p i l. ap (λ x. field_at x (place_at fs i)) p.bytes ∙ stands fs p.row i l;
 }
+
+pub lookup_laws_lem : LookupLaws
+lookup_laws_lem = record { at_place = λ b fs p i l. ap (λ x. field_at x (place_at fs i)) p.bytes ∙ stands fs p.row i l }

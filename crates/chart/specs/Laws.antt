@@ -28,5 +28,7 @@ pub record FormatLaws : Type 0 where
   -- Which of them is computed by `read`.
   pub passes : (b : List ℕ) → every is_byte b ≡ true → (fs : List Field) → (read b ≡ Ok fs) ↔ Passes b fs
   pub refuses : (b : List ℕ) → every is_byte b ≡ true → (e : Refusal) → (read b ≡ Err e) ↔ Refused b e
+
+pub record LookupLaws : Type 0 where
   -- The field at the place of the field number i of a file that passes is that field.
   pub at_place : (b : List ℕ) (fs : List Field) → Passes b fs → (i : ℕ) → i < length fs → field_at b (place_at fs i) ≡ Some (slice_index_or fs i (graph 0))
