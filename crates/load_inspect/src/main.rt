@@ -3,15 +3,24 @@
 
 use load_listing::report;
 use loading::charts::Chart;
+use std::process::ExitCode;
 use std::{env, fs, io};
 
 const DEFAULT: &str = "chart.bin";
 
-fn main(rt: HostRuntime) -> io::Result<()> {
-    match env::args(&rt) {
+// What went wrong has been said: an error that main returned would be printed once more.
+fn main(rt: HostRuntime) -> ExitCode {
+    match run(&rt) {
+        Ok(()) => ExitCode::SUCCESS,
+        Err(_) => ExitCode::FAILURE,
+    }
+}
+
+fn run(rt: &HostRuntime) -> io::Result<()> {
+    match env::args(rt) {
         Ok(mut args) => match args.nth(1) {
-            Some(path) => inspect(&rt, path.as_str()),
-            None => inspect(&rt, DEFAULT),
+            Some(path) => inspect(rt, path.as_str()),
+            None => inspect(rt, DEFAULT),
         },
         Err(error) => {
             eprintln!(rt; "the arguments cannot be read: {error}")?;
