@@ -216,7 +216,7 @@ inSignals in_signals
 incomingAt incoming_at
 index-behind index_behind
 initial-in initial_in
-initial-of initial_of_lem
+initial-of graph_of_initial
 initial-parts initial_parts
 initialAt initial_at
 initialOf initial_of

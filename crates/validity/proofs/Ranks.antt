@@ -22,7 +22,7 @@ module _ (c : Chart) (S : Sound c) where
   pub entered_initial : (g : ℕ) → g < c.graphs → entered c (c.initial g) ≡ true
   entered_initial g l =
       let i = c.initial g in
-      left_or (eqb (c.initial (c.graph i)) i) (reaches c (c.initial (c.graph i)) i) (eq-eqb (c.initial (c.graph i)) i (ap c.initial (S.initial_of_lem g l)))
+      left_or (eqb (c.initial (c.graph i)) i) (reaches c (c.initial (c.graph i)) i) (eq-eqb (c.initial (c.graph i)) i (ap c.initial (S.graph_of_initial g l)))
 
   pub entered_chain : (t : ℕ) → t < c.transitions → c.chain t ≡ true → entered c (c.source t) ≡ true → entered c (c.target t) ≡ true
   entered_chain t l h r =

@@ -141,7 +141,7 @@ module _ (fs : List Field) (some : 0 < length fs) (A : Faultless fs) where
     owned = owned fs F;
     owner_macro = λ g l. macro_is (state_kind_of fs (owner_of fs g)) (owner_macro fs F g l);
     initial_in = λ g l. ((initial_parts fs F g l).1, (initial_parts fs F g l).0);
-    initial_of_lem = λ g l. (initial_parts fs F g l).2;
+    graph_of_initial = λ g l. (initial_parts fs F g l).2;
     owns = λ s l m. owns fs F s l (ap is_macro m);
     from = λ t l. ((joins fs F t l).from, source_in fs F t l);
     to = λ t l. ((joins fs F t l).to, target_in fs F t l);

@@ -20,7 +20,7 @@ pub record Sound (c : Chart) : Type 0 where
   pub owned : (g : ℕ) → g < c.graphs → c.owner g < c.states
   pub owner_macro : (g : ℕ) → g < c.graphs → c.state_kind (c.owner g) ≡ Macro
   pub initial_in : (g : ℕ) → g < c.graphs → Inner c (c.initial g)
-  pub initial_of_lem : (g : ℕ) → g < c.graphs → c.graph (c.initial g) ≡ g
+  pub graph_of_initial : (g : ℕ) → g < c.graphs → c.graph (c.initial g) ≡ g
   pub owns : (s : ℕ) → s < c.states → c.state_kind s ≡ Macro → (g : ℕ) × (g < c.graphs) × (c.owner g ≡ s)
   -- Transitions stay in one graph. From a state goes one normal transition at most; the state is a macrostate.
   pub from : (t : ℕ) → t < c.transitions → Inner c (c.source t)
