@@ -4,7 +4,8 @@
 ghost use Rattle.std.specs.Prelude.{◌≡◌, [], is_ok, IfOk, if◌then◌else◌, string_bytes};
 ghost use Rattle.loading.specs.Loading.{loading as outcome_of};
 ghost use Rattle.loading.specs.Meaning.{copy_in, fields_for};
-ghost use Rattle.load_verdict.specs.Texts.{Ends, Told};
+ghost use Rattle.load_verdict.specs.Texts.{Told};
+ghost use Rattle.verdict.specs.Texts.{Ends};
 
 use load_verdict::{refusal_text, summary};
 use loading::charts::Chart;

@@ -1,31 +1,15 @@
--- What a listing says: how many of each a file has, or where and why it is refused. Assumes nothing.
+-- What a listing says of a file that is loaded: how many of each it has, or where and why it is refused. Assumes nothing.
 use Rattle.std.specs.Prelude.{◌≡◌, ℕ, List, ◌++◌, Ok, Err, codes, decimal}
-use Rattle.chart.specs.declared.kinds.Tag.TheVariants.{Signal, State, Graph, Transition, Suspension}
-use Rattle.chart.specs.Fields.{Field, is}
-use Rattle.chart.specs.Limits.{count}
 use Rattle.chart.specs.Reading.{row_of}
 use Rattle.loading.specs.declared.refusals.Refusal.{Refusal}
 use Rattle.loading.specs.Loading.{loading}
 use Rattle.loading.specs.Numbers.{number_of, layer_of, place_of}
-
--- the last line of what a file holds: how many signals, states, graphs, transitions and suspensions
-abbrev pub summary_line : ℕ → ℕ → ℕ → ℕ → ℕ → List ℕ
-summary_line s t g r u =
-    decimal s ++ (codes " signals, " ++ (decimal t ++ (codes " states, " ++ (decimal g ++ (codes " graphs, "
-    ++ (decimal r ++ (codes " transitions, " ++ (decimal u ++ codes " suspensions\n"))))))))
-
-abbrev pub summary_of : List Field → List ℕ
-summary_of fs = summary_line (count (is Signal) fs) (count (is State) fs) (count (is Graph) fs) (count (is Transition) fs) (count (is Suspension) fs)
+use Rattle.verdict.specs.Texts.{Ends}
 
 -- the first line of a refusal, with its number, its layer and its place
 abbrev pub refusal_line : ℕ → ℕ → ℕ → List ℕ
 refusal_line n l p =
     codes "refused " ++ (decimal n ++ (codes " layer " ++ (decimal l ++ (codes " at " ++ (decimal p ++ codes "\n")))))
-
--- The text ends with the summary of these fields.
-pub record Ends (fs : List Field) (text : List ℕ) : Type 0 where
-  pub body : List ℕ
-  pub whole : text ≡ body ++ summary_of fs
 
 -- The text begins with this line.
 pub record Opens (line text : List ℕ) : Type 0 where

@@ -6,10 +6,10 @@ ghost use Rattle.load_verdict.specs.Texts.{Begins};
 
 use loading::refusals::Refusal;
 use std::alloc::{AllocError, Global};
+use verdict::sentences;
 
 mod faults;
 mod refusals;
-mod sentences;
 pub mod summary;
 
 /// The number, layer and place of a refusal, and behind them a sentence on it.

@@ -1,10 +1,11 @@
 // The last line of a listing: how many of each there are.
 ghost use Rattle.std.specs.Prelude.{◌≡◌, IfOk, string_bytes};
 ghost use Rattle.tables.specs.Views.{fields_of};
-ghost use Rattle.load_verdict.specs.Texts.{summary_line, summary_of};
+ghost use Rattle.verdict.specs.Texts.{summary_of};
 
 use std::alloc::{AllocError, Global};
 use tables::tables::Tables;
+use verdict::summary::counts_line;
 
 pub fn line(heap: Global, tables: &Tables) -> Result<String, AllocError>
     ensures { IfOk result (λ text. string_bytes text ≡ summary_of (fields_of tables.now)) }
@@ -15,19 +16,4 @@ pub fn line(heap: Global, tables: &Tables) -> Result<String, AllocError>
     let transitions = tables.transition_count();
     let suspensions = tables.suspension_count();
     counts_line(heap, signals, states, graphs, transitions, suspensions)
-}
-
-fn counts_line(
-    heap: Global,
-    signals: usize,
-    states: usize,
-    graphs: usize,
-    transitions: usize,
-    suspensions: usize,
-) -> Result<String, AllocError>
-    ensures { IfOk result (λ text. string_bytes text ≡ summary_line signals states graphs transitions suspensions) }
-{
-    format!(in heap;
-        "{signals} signals, {states} states, {graphs} graphs, {transitions} transitions, {suspensions} suspensions\n",
-    )
 }

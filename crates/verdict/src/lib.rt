@@ -8,7 +8,7 @@ use chart::refusals::Refusal;
 use std::alloc::{AllocError, Global};
 
 mod refusals;
-mod sentences;
+pub mod sentences;
 pub mod summary;
 
 /// The number, layer and place of the refusal, and behind them a sentence on it.

@@ -3,7 +3,8 @@ use chart::kinds::Tag;
 use chart::refusals::{Limit, Part, Refusal};
 use std::alloc::{AllocError, Global};
 
-pub(crate) fn on(heap: Global, refusal: &Refusal) -> Result<String, AllocError> {
+/// What is wrong with the file, in words.
+pub fn on(heap: Global, refusal: &Refusal) -> Result<String, AllocError> {
     match refusal {
         Refusal::Empty => String::from_str(
             heap,

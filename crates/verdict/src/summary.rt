@@ -20,7 +20,8 @@ pub fn line(heap: Global, fields: &[Placed<'_>]) -> Result<String, AllocError>
     counts_line(heap, signals, states, graphs, transitions, suspensions)
 }
 
-fn counts_line(
+/// The line with these counts.
+pub fn counts_line(
     heap: Global,
     signals: usize,
     states: usize,

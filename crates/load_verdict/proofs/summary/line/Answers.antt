@@ -1,5 +1,5 @@
 use Rattle.std.proofs.Common.{◌≡◌, IfOk, string_bytes, subst}
-use Rattle.load_verdict.specs.Texts.{summary_line}
+use Rattle.verdict.specs.Texts.{summary_line}
 use Rattle.load_verdict.proofs.summary.line.Goals as goal
 
 pub returns : goal.returns
