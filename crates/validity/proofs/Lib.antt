@@ -5,6 +5,7 @@ pub mod Numbers
 pub mod Structure
 pub mod Chains
 pub mod Soundness
+pub mod Ranged
 pub mod Ranks
 pub mod Rules
 pub mod Evaluation
