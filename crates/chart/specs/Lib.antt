@@ -4,6 +4,8 @@ pub mod WellFormed
 pub mod Stated
 pub mod Decoding
 pub mod Refusals
+pub mod Words
+pub mod Postfix
 pub mod Stages
 pub mod Limits
 pub mod Order

@@ -11,5 +11,7 @@ pub mod lookup;
 mod names;
 mod order;
 mod pieces;
+pub mod postfix;
 pub mod reader;
 pub mod refusals;
+mod words;

@@ -1,8 +1,9 @@
 // Why the first layer refuses a file: a number, and the place of the first faulty field.
-ghost use Rattle.std.specs.Prelude.{◌≡◌};
-ghost use Rattle.chart.specs.Refusals.{number_of, layer_of, place_of};
+ghost use Rattle.std.specs.Prelude.{◌≡◌, Some};
+ghost use Rattle.chart.specs.Refusals.{number_of, layer_of, place_of, code_of, code_text};
 
 use crate::kinds::Tag;
+use std::fmt;
 
 /// The part of a field's contents that is not allowed.
 #[derive(Clone, Copy, PartialEq, Eq)]
@@ -42,7 +43,38 @@ pub enum Refusal {
     BeyondLimit { place: usize, limit: Limit },
 }
 
+/// What a refusal is told by.
+#[derive(Clone, Copy, PartialEq, Eq)]
+pub struct RefusalCode {
+    pub number: u8,
+    pub layer: u8,
+    pub place: usize,
+}
+
+impl fmt::Display for RefusalCode {
+    ghost output = { λ code. Some (code_text code) };
+
+    fn fmt<W: fmt::Write>(&self, f: &mut fmt::Formatter<W>) -> fmt::Result {
+        let RefusalCode {
+            number,
+            layer,
+            place,
+        } = *self;
+        write!(f, "refused {number} layer {layer} at {place}")
+    }
+}
+
 impl Refusal {
+    pub fn code(&self) -> RefusalCode
+        ensures { result ≡ code_of self.now }
+    {
+        RefusalCode {
+            number: self.number(),
+            layer: self.layer(),
+            place: self.place(),
+        }
+    }
+
     pub fn number(&self) -> u8
         ensures { result ≡ number_of self.now }
     {
