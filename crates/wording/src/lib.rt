@@ -4,4 +4,5 @@
 pub mod effects;
 pub mod kinds;
 pub mod names;
+mod symbols;
 pub mod triggers;

@@ -1,17 +1,21 @@
-// The names of signals and states as text. Of a number that nothing has it is empty.
-ghost use Rattle.std.specs.Prelude.{◌≡◌, IsUtf8};
+// The names of signals and states as text.
+ghost use Rattle.std.specs.Prelude.{◌≡◌, Some, IsUtf8};
 ghost use Rattle.tables.specs.Rows.{signal_name_of, state_name_of};
 ghost use Rattle.tables.specs.Views.{fields_of};
+ghost use Rattle.wording.specs.Words.{signal_shown, state_shown};
 
+use std::fmt;
 use std::str::from_utf8;
 use tables::tables::Tables;
 
+/// The signal's name; empty if no signal has the number.
 pub fn signal_name(tables: &Tables, signal: usize) -> &str
     ensures { result.now ≡ signal_name_of (fields_of tables.now) signal }
 {
     text(tables.signal_name(signal))
 }
 
+/// The state's name; empty if no state has the number.
 pub fn state_name(tables: &Tables, state: usize) -> &str
     ensures { result.now ≡ state_name_of (fields_of tables.now) state }
 {
@@ -22,8 +26,46 @@ pub fn state_name(tables: &Tables, state: usize) -> &str
 fn text(bytes: &[u8]) -> &str
     ensures { IsUtf8 bytes.now → result.now ≡ bytes.now }
 {
-    match from_utf8(bytes) {
-        Ok(text) => text,
-        Err(_) => "",
+    from_utf8(bytes).unwrap_or("")
+}
+
+/// A signal that is referred to by its number: its name, or `?7` if no signal has the number.
+#[derive(Clone, Copy)]
+pub struct SignalName<'a> {
+    pub tables: &'a Tables,
+    pub number: usize,
+}
+
+impl fmt::Display for SignalName<'_> {
+    ghost output = { λ s. Some (signal_shown (fields_of s.tables.now) s.number) };
+
+    fn fmt<W: fmt::Write>(&self, f: &mut fmt::Formatter<W>) -> fmt::Result {
+        let number = self.number;
+        if number < self.tables.signal_count() {
+            f.write_str(signal_name(self.tables, number))
+        } else {
+            write!(f, "?{number}")
+        }
+    }
+}
+
+/// A state that is referred to by its number: `7 name`, or `7 ?` if no state has the number.
+#[derive(Clone, Copy)]
+pub struct StateName<'a> {
+    pub tables: &'a Tables,
+    pub number: usize,
+}
+
+impl fmt::Display for StateName<'_> {
+    ghost output = { λ s. Some (state_shown (fields_of s.tables.now) s.number) };
+
+    fn fmt<W: fmt::Write>(&self, f: &mut fmt::Formatter<W>) -> fmt::Result {
+        let number = self.number;
+        if number < self.tables.state_count() {
+            let name = state_name(self.tables, number);
+            write!(f, "{number} {name}")
+        } else {
+            write!(f, "{number} ?")
+        }
     }
 }

@@ -1,107 +1,160 @@
 // Triggers: postfix in the file, infix in a listing.
-ghost use Rattle.std.specs.Prelude.{◌≤◌, length};
+ghost use Rattle.std.specs.Prelude.{◌≡◌, ◌≤◌, length};
 
-use crate::names::signal_name;
-use std::alloc::AllocError;
+use crate::names::SignalName;
+use crate::symbols::Symbol;
+use std::fmt;
 use tables::tables::Tables;
 
-const AND: u8 = 128;
-
-const OR: u8 = 129;
-
-const NOT: u8 = 130;
-
-const YES: u8 = 131;
-
-/// What stands in a place without parentheses.
+/// ` when ` and the trigger, or nothing if there is none.
 #[derive(Clone, Copy)]
-enum Place {
-    /// Anything.
-    Open,
-    /// All but an `or`.
-    Joined,
+pub struct Condition<'a> {
+    pub tables: &'a Tables,
+    pub trigger: Option<&'a [u8]>,
+}
+
+impl fmt::Display for Condition<'_> {
+    fn fmt<W: fmt::Write>(&self, f: &mut fmt::Formatter<W>) -> fmt::Result {
+        let Some(postfix) = self.trigger else {
+            return Ok(());
+        };
+        f.write_str(" when ")?;
+        if is_expression(postfix) {
+            Infix {
+                tables: self.tables,
+                postfix,
+                place: Binding::Or,
+            }
+            .fmt(f)
+        } else {
+            IllFormed { postfix }.fmt(f)
+        }
+    }
+}
+
+/// The bytes of a trigger that can't be evaluated.
+#[derive(Clone, Copy)]
+struct IllFormed<'a> {
+    postfix: &'a [u8],
+}
+
+impl fmt::Display for IllFormed<'_> {
+    fn fmt<W: fmt::Write>(&self, f: &mut fmt::Formatter<W>) -> fmt::Result {
+        f.write_str("(ill-formed:")?;
+        for byte in self.postfix {
+            write!(f, " {byte:02X}")?;
+        }
+        f.write_str(")")
+    }
+}
+
+/// How tightly an expression holds together, the loosest first.
+#[derive(Clone, Copy, PartialEq, Eq, PartialOrd, Ord)]
+enum Binding {
+    Or,
+    And,
     /// A signal, `yes`, or a negation.
     Tight,
 }
 
-/// ` when` and the trigger, or nothing if there is none.
-pub fn push_condition(
-    tables: &Tables,
-    trigger: Option<&[u8]>,
-    text: &mut String,
-) -> Result<(), AllocError> {
-    match trigger {
-        Some(postfix) => {
-            text.push_str(" when ")?;
-            push_infix(tables, postfix, Place::Open, text)
+impl Binding {
+    /// Of an expression that ends with the symbol.
+    fn of(symbol: Symbol) -> Binding {
+        match symbol {
+            Symbol::Or => Binding::Or,
+            Symbol::And => Binding::And,
+            Symbol::Not | Symbol::Signal(_) | Symbol::Yes => Binding::Tight,
         }
-        None => Ok(()),
     }
 }
 
-/// A trigger, or a part of one, in infix.
-fn push_infix(
-    tables: &Tables,
-    postfix: &[u8],
-    place: Place,
-    text: &mut String,
-) -> Result<(), AllocError> {
-    let [operands @ .., last] = postfix else {
-        return Ok(());
-    };
-    let is_loose = is_loose(*last, place);
-    if is_loose {
-        text.push_str("(")?;
-    }
-    match *last {
-        AND => {
-            let (left, right) = operands.split_at(last_operand(operands));
-            push_infix(tables, left, Place::Joined, text)?;
-            text.push_str(" and ")?;
-            push_infix(tables, right, Place::Tight, text)?;
-        }
-        OR => {
-            let (left, right) = operands.split_at(last_operand(operands));
-            push_infix(tables, left, Place::Open, text)?;
-            text.push_str(" or ")?;
-            push_infix(tables, right, Place::Joined, text)?;
-        }
-        NOT => {
-            text.push_str("not ")?;
-            push_infix(tables, operands, Place::Tight, text)?;
-        }
-        YES => text.push_str("yes")?,
-        signal => text.push_str(signal_name(tables, signal as usize))?,
-    }
-    if is_loose {
-        text.push_str(")")?;
-    }
-    Ok(())
+/// An expression in infix, in parentheses if its place asks for a tighter one.
+#[derive(Clone, Copy)]
+struct Infix<'a> {
+    tables: &'a Tables,
+    postfix: &'a [u8],
+    place: Binding,
 }
 
-/// Whether what ends with this byte asks for parentheses in the place.
-fn is_loose(last: u8, place: Place) -> bool {
-    match place {
-        Place::Open => false,
-        Place::Joined => last == OR,
-        Place::Tight => last == OR || last == AND,
-    }
-}
-
-/// Where the last of the operands begins.
-fn last_operand(operands: &[u8]) -> usize
-    ensures { result ≤ length operands.now }
-{
-    let mut wanted = 1usize;
-    for i in (0..operands.len()).rev() {
-        wanted = match operands[i] {
-            AND | OR => wanted.saturating_add(1),
-            NOT => wanted,
-            _ => wanted.saturating_sub(1),
+impl fmt::Display for Infix<'_> {
+    fn fmt<W: fmt::Write>(&self, f: &mut fmt::Formatter<W>) -> fmt::Result {
+        let [operands @ .., last] = self.postfix else {
+            return Ok(());
         };
-        if wanted == 0 {
-            return i;
+        let Ok(symbol) = Symbol::try_from(*last) else {
+            return Ok(());
+        };
+        let is_loose = Binding::of(symbol) < self.place;
+        if is_loose {
+            f.write_str("(")?;
+        }
+        match symbol {
+            Symbol::And => {
+                let (left, right) = in_two(operands);
+                self.part(left, Binding::And).fmt(f)?;
+                f.write_str(" and ")?;
+                self.part(right, Binding::Tight).fmt(f)?;
+            }
+            Symbol::Or => {
+                let (left, right) = in_two(operands);
+                self.part(left, Binding::Or).fmt(f)?;
+                f.write_str(" or ")?;
+                self.part(right, Binding::And).fmt(f)?;
+            }
+            Symbol::Not => {
+                f.write_str("not ")?;
+                self.part(operands, Binding::Tight).fmt(f)?;
+            }
+            Symbol::Yes => f.write_str("yes")?,
+            Symbol::Signal(signal) => {
+                let name = SignalName {
+                    tables: self.tables,
+                    number: usize::from(signal),
+                };
+                write!(f, "{name}")?;
+            }
+        }
+        if is_loose {
+            f.write_str(")")?;
+        }
+        Ok(())
+    }
+}
+
+impl<'a> Infix<'a> {
+    /// An operand of the expression.
+    fn part(&self, postfix: &'a [u8], place: Binding) -> Infix<'a>
+        ensures { result.postfix.now ≡ postfix.now }
+    {
+        Infix {
+            tables: self.tables,
+            postfix,
+            place,
         }
     }
-    0
+}
+
+/// The operands of `and` or `or`. The right one is the only end of both that is an expression.
+fn in_two(operands: &[u8]) -> (&[u8], &[u8])
+    ensures left { length result.0.now ≤ length operands.now }
+    ensures right { length result.1.now ≤ length operands.now }
+{
+    let start = (0..operands.len())
+        .find(|start| is_expression(&operands[*start..]))
+        .unwrap_or(0);
+    operands.split_at(start)
+}
+
+/// Whether the bytes come to one value.
+fn is_expression(postfix: &[u8]) -> bool {
+    postfix.iter().try_fold(0, stacked) == Some(1)
+}
+
+/// How many values are stacked behind the byte, with so many in front of it; none if it lacks an operand or is no symbol.
+fn stacked(values: usize, byte: &u8) -> Option<usize> {
+    match Symbol::try_from(*byte).ok()? {
+        Symbol::Signal(_) | Symbol::Yes => values.checked_add(1),
+        Symbol::Not => values.checked_sub(1)?.checked_add(1),
+        Symbol::And | Symbol::Or => values.checked_sub(2)?.checked_add(1),
+    }
 }
