@@ -1,4 +1,4 @@
+mod Made
 mod Words
-mod Singles
-mod Rounds
 mod Added
+mod Rounds

@@ -1,29 +1,32 @@
--- The union of two sets, bit by bit.
-use Rattle.std.proofs.Common.{◌≡◌, ℕ, zero, suc, ◌-◌, ◌/◌, ◌%◌, ◌^◌, ◌<◌, max, Bool, true, false, cond, ◌||◌, eqb, ltb, refl, ap, ◌∙◌, arith}
-use lib.Bits.{bit_or, or_shr, or_step}
-use Rattle.closure.specs.Rows.{bit_at, in_row}
-use Rattle.closure.specs.declared.Row.{Row}
+-- Sets of numbers, bit by bit.
+use Rattle.std.proofs.Common.{◌≡◌, ℕ, ◌/◌, ◌%◌, ◌^◌, ◌*◌, ◌<◌, ◌||◌, eqb, length, get_or, set, bit_or, w64, arith, get_or-set_other, get_or-set_same}
+use Rattle.std.proofs.lemmas.Bool.Decides.{nat_tests}
+use Rattle.std.proofs.lemmas.List.{get_or_past}
+use Rattle.std.proofs.lemmas.Nat.Bits.{bit_at_or, bit_at-lt, bit_at_set_same, bit_at_set_other}
+use Rattle.closure.specs.Rows.{in_row}
+use Rattle.closure.specs.declared.row.Row.{Row}
 
-bit_or_lem : (a b k : ℕ) → bit_or a b / 2 ^ k % 2 ≡ max (a / 2 ^ k % 2) (b / 2 ^ k % 2)
-bit_or_lem a b k =
-    let last = or_step (a / 2 ^ k) (b / 2 ^ k) in
-    ap (λ n. n % 2) (or_shr a b k) ∙ omega (arith, last)
+-- the union of two sets
+pub in_or : (r q w : Row) → length r.words ≡ 4 → length q.words ≡ 4 → length w.words ≡ 4
+    → ((k : ℕ) → k < 4 → get_or w.words k 0 ≡ bit_or (get_or r.words k 0) (get_or q.words k 0)) → (y : ℕ) → in_row w y ≡ (in_row r y || in_row q y)
+in_or r q w long_r long_q long_w word y =
+    let k = y / 64 in
+    let past_r = get_or_past r.words k 0 in
+    let past_q = get_or_past q.words k 0 in
+    let past_w = get_or_past w.words k 0 in
+    let bit = bit_at_or (get_or r.words k 0) (get_or q.words k 0) (y % 64) in
+    let bit_r = bit_at-lt (get_or r.words k 0) (y % 64) in
+    let bit_q = bit_at-lt (get_or q.words k 0) (y % 64) in
+    let here = word k in
+    grind (arith, nat_tests)
 
-two_bits : (m n : ℕ) → m < 2 → n < 2 → eqb (max m n) 1 ≡ (eqb m 1 || eqb n 1)
-two_bits zero zero h k = refl
-two_bits zero (suc zero) h k = refl
-two_bits zero (suc (suc n)) h k = absurd (omega arith)
-two_bits (suc zero) zero h k = refl
-two_bits (suc zero) (suc zero) h k = refl
-two_bits (suc zero) (suc (suc n)) h k = absurd (omega arith)
-two_bits (suc (suc m)) n h k = absurd (omega arith)
-
-at_or : (a b k : ℕ) → bit_at (bit_or a b) k ≡ (bit_at a k || bit_at b k)
-at_or a b k = ap (λ n. eqb n 1) (bit_or_lem a b k) ∙ two_bits (a / 2 ^ k % 2) (b / 2 ^ k % 2) (omega arith) (omega arith)
-
-pub in_or : (r q : Row) (y : ℕ) → in_row (record { low = bit_or r.low q.low; high = bit_or r.high q.high }) y ≡ (in_row r y || in_row q y)
-in_or r q y = go (ltb y 128)
-  where
-    go : (t : Bool) → cond t (bit_at (bit_or r.low q.low) y) (bit_at (bit_or r.high q.high) (y - 128)) ≡ (cond t (bit_at r.low y) (bit_at r.high (y - 128)) || cond t (bit_at q.low y) (bit_at q.high (y - 128)))
-    go true = at_or r.low q.low y
-    go false = at_or r.high q.high (y - 128)
+-- the set with one number more
+pub in_insert : (r : Row) (y : ℕ) → y < 256 → length r.words ≡ 4 → (z : ℕ)
+    → in_row (record { words = set r.words (y / 64) (bit_or (get_or r.words (y / 64) 0) (1 * 2 ^ (y % 64) % 2 ^ 64)) }) z ≡ (in_row r z || eqb z y)
+in_insert r y l long z =
+    let word = bit_or (get_or r.words (y / 64) 0) (1 * 2 ^ (y % 64) % 2 ^ 64) in
+    let same = bit_at_set_same w64 (get_or r.words (y / 64) 0) (y % 64) (omega arith) in
+    let other = bit_at_set_other w64 (get_or r.words (y / 64) 0) (y % 64) (omega arith) (z % 64) in
+    let at_same = get_or-set_same r.words (y / 64) word 0 (omega (arith, long)) in
+    let at_other = get_or-set_other r.words (y / 64) (z / 64) word 0 in
+    grind (arith, nat_tests)

@@ -1,16 +1,14 @@
--- Sets of numbers below 256, in two words each, and rows of them. Assumes nothing.
-use Rattle.std.specs.Prelude.{◌≡◌, ℕ, ◌-◌, ◌/◌, ◌%◌, ◌^◌, ◌<◌, Bool, true, cond, ◌&&◌, List, ◌==◌, nat_lt, slice_index_or}
-use Rattle.closure.specs.declared.Row.{Row}
+-- Sets of numbers below 256, in four words each, and rows of them. Assumes nothing.
+use Rattle.std.specs.Prelude.{◌≡◌, ℕ, ◌/◌, ◌%◌, ◌<◌, Bool, true, ◌&&◌, List, ◌==◌, [], nat_lt, slice_index, slice_index_or}
+use Rattle.std.specs.Int.{bit_at}
+use Rattle.closure.specs.declared.row.Row.{Row}
 use Rattle.closure.specs.declared.Reach.{Reach}
 
-abbrev pub bit_at : ℕ → ℕ → Bool
-bit_at w k = w / 2 ^ k % 2 == 1
-
 abbrev pub in_row : Row → ℕ → Bool
-in_row r y = cond (nat_lt y 128) (bit_at r.low y) (bit_at r.high (y - 128))
+in_row r y = bit_at (slice_index r.words (y / 64)) (y % 64) == 1
 
 abbrev pub empty : Row
-empty = record { low = 0; high = 0 }
+empty = record { words = [] }
 
 -- the row x holds y
 abbrev pub holds : List Row → ℕ → ℕ → Bool
