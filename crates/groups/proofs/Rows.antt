@@ -1,10 +1,9 @@
 -- The groups of the keys below a number, one behind the other.
-use Rattle.std.proofs.Common.{◌≡◌, ℕ, zero, suc, ◌+◌, ◌<◌, ◌≤◌, min, true, cond, ltb, List, [], ◌∷◌, ◌++◌, length, get_or, take, drop, is_ok, Ok, Err, Result, sym, refl, ap, ◌∙◌, subst, ap₂, arith, length-append, le-ltb, lt-ltb, MatchResult}
+use Rattle.std.proofs.Common.{◌≡◌, ℕ, zero, suc, ◌+◌, ◌<◌, ◌≤◌, min, cond, ltb, List, [], ◌∷◌, ◌++◌, length, get_or, take, drop, sym, refl, ap, ◌∙◌, subst, ap₂, arith, length-append, le-ltb, lt-ltb}
 use native.Mathlib.Decide.{ℕ_discrete, dec_lt}
 use Rattle.std.specs.List.{between}
 use Rattle.std.proofs.lemmas.List.{take_all, take-append-le, drop_at, drop_all, get_or_past, get_or_default, get_or_push, get_or_append_left, length_push, length-take}
 use Rattle.std.proofs.lemmas.Slice.{between_is}
-use Rattle.std.proofs.lemmas.Bool.{true≢false}
 use Rattle.groups.specs.Numbers.{those, with_key, start_of, part}
 use Rattle.groups.specs.Filling.{below, Filled}
 use Rattle.groups.proofs.Those.{few, split}
@@ -79,19 +78,6 @@ module _ (keys : List ℕ) (n : ℕ) (starts members : List ℕ) (f : Filled key
         | no ge ↦
             past starts members k (omega (arith, f.many)) ∙ ap (λ b. cond b (with_key keys k) []) (sym (le-ltb k n (omega arith)))
       ]
-
--- no key has a group
-pub none : (keys starts members : List ℕ) → Filled keys 0 starts members → (k : ℕ) → part starts members k ≡ []
-none keys starts members f k = part_is keys 0 starts members f k ∙ ap (λ b. cond b (with_key keys k) []) (le-ltb k 0 (omega arith))
-
--- what holds of the groups, whether they are filled or none for want of room
-pub told : {T E : Type 0} (r : Result T E) (keys starts members : List ℕ) (size key_room number_room : ℕ)
-    → Filled keys (cond (is_ok r) size 0) starts members → (is_ok r ≡ true → length keys < 65536)
-    → (size ≤ key_room → length keys ≤ number_room → length keys < 65536 → is_ok r ≡ true)
-    → MatchResult r (λ _. (length keys < 65536) × ((k : ℕ) → part starts members k ≡ cond (ltb k size) (with_key keys k) []))
-    (λ _. ((k : ℕ) → part starts members k ≡ []) × ((size ≤ key_room) × (length keys ≤ number_room) → length keys < 65536 → ⊥))
-told (Ok x) keys starts members size key_room number_room f few succeeds = (few refl, part_is keys size starts members f)
-told (Err e) keys starts members size key_room number_room f few succeeds = (none keys starts members f, λ room l. true≢false (sym (succeeds room.0 room.1 l)))
 
 -- one group more
 pub goes_on : (keys : List ℕ) (n start : ℕ) (was now members row : List ℕ) → Filled keys n was members → start ≡ length members → now ≡ was ++ start ∷ [] → row ≡ members ++ with_key keys n → Filled keys (n + 1) now row

@@ -1,10 +1,11 @@
 // Groups are made, filled, cleared and looked up.
-ghost use Rattle.std.specs.Prelude.{◌≡◌, ℕ, ◌+◌, ◌<◌, ◌≤◌, true, [], ◌++◌, length, is_ok, IfOk, if◌then◌else◌, vec_len, vec_capacity, MatchResult, nat_lt};
-ghost use Rattle.groups.specs.Filling.{Filled};
+ghost use Rattle.std.specs.Prelude.{◌≡◌, ℕ, ◌+◌, ◌<◌, ◌≤◌, [], ◌++◌, length, IfOk, OnOk, OnErr, IsOk, ◌↔◌, if◌then◌else◌, vec_len, vec_capacity, nat_lt};
+ghost use Rattle.std.specs.Result.{IsErrOf};
+ghost use Rattle.groups.specs.Filling.{IsFilled, SameRoom};
 ghost use Rattle.groups.specs.Numbers.{with_key, start_of};
-ghost use Rattle.groups.specs.Lookup.{group, room_for_keys, room_for_numbers, HasRoom};
+ghost use Rattle.groups.specs.Lookup.{group, IsEmpty, room_for_keys, room_for_numbers, HasRoom};
 
-use crate::Groups;
+use crate::{FillError, Groups};
 use std::alloc::{AllocError, Global};
 
 impl Groups {
@@ -19,17 +20,30 @@ impl Groups {
 
     /// Groups the numbers 0, 1, .. below the length of `keys`, each under its key, for the keys below `size`.
     /// More than 65,535 numbers are an error; fewer are one only where there is neither room for them nor memory to make it. After an error no group has a member.
-    pub fn fill(&mut self, size: usize, keys: &[u16]) -> Result<(), AllocError>
-        ensures groups { MatchResult result (λ _. (length keys.now < 65536) × ((k : ℕ) → group self.new k ≡ (if nat_lt k size then with_key keys.now k else []))) (λ _. ((k : ℕ) → group self.new k ≡ []) × (HasRoom self.old size (length keys.now) → length keys.now < 65536 → ⊥)) }
+    pub fn fill(&mut self, size: usize, keys: &[u16]) -> Result<(), FillError>
+        ensures ok { OnOk result ((k : ℕ) → group self.new k ≡ (if nat_lt k size then with_key keys.now k else [])) }
+        ensures err { OnErr result ((k : ℕ) → group self.new k ≡ []) }
+        ensures too_many { IsErrOf result FillError.TooMany ↔ (65535 < length keys.now) }
+        ensures succeeds { HasRoom self.old size (length keys.now) → length keys.now < 65536 → IsOk result }
         ensures room { HasRoom self.new (room_for_keys self.old) (room_for_numbers self.old) }
     {
-        refill(&mut self.starts, &mut self.members, size, keys)
+        self.clear();
+        if keys.len() > usize::from(u16::MAX) {
+            return Err(FillError::TooMany);
+        }
+        self.starts.reserve(size)?;
+        self.members.reserve(keys.len())?;
+        for key in 0..size {
+            self.add_group(keys, key);
+        }
+        Ok(())
     }
 
     /// No group has a member.
     pub fn clear(&mut self)
         ensures groups { (k : ℕ) → group self.new k ≡ [] }
         ensures room { HasRoom self.new (room_for_keys self.old) (room_for_numbers self.old) }
+        ensures empty { IsEmpty self.new }
     {
         self.starts.clear();
         self.members.clear();
@@ -39,11 +53,8 @@ impl Groups {
     pub fn of(&self, key: usize) -> &[u16]
         ensures { result.now ≡ group self.now key }
     {
-        if key >= self.starts.len() {
-            return &[];
-        }
         let start = self.start(key);
-        let end = self.start(key + 1);
+        let end = self.start(key.saturating_add(1));
         &self.members[start..end]
     }
 
@@ -51,58 +62,32 @@ impl Groups {
     fn start(&self, key: usize) -> usize
         ensures { result ≡ start_of self.now.starts.items self.now.members.items key }
     {
-        if key < self.starts.len() {
-            self.starts[key] as usize
-        } else {
-            self.members.len()
-        }
+        self.starts
+            .get(key)
+            .map_or(self.members.len(), |start| usize::from(*start))
     }
-}
 
-// The groups of the keys below the size, or none for want of room.
-fn refill(
-    starts: &mut Vec<u16>,
-    members: &mut Vec<u16>,
-    size: usize,
-    keys: &[u16],
-) -> Result<(), AllocError>
-    ensures filled { Filled keys.now (if is_ok result then size else 0) starts.new.items members.new.items }
-    ensures few { is_ok result ≡ true → length keys.now < 65536 }
-    ensures succeeds { size ≤ vec_capacity starts.old → length keys.now ≤ vec_capacity members.old → length keys.now < 65536 → is_ok result ≡ true }
-    ensures room { (vec_capacity starts.old ≤ vec_capacity starts.new) × (vec_capacity members.old ≤ vec_capacity members.new) }
-{
-    starts.clear();
-    members.clear();
-    if keys.len() > 65535 {
-        return Err(AllocError);
-    }
-    starts.reserve(size)?;
-    members.reserve(keys.len())?;
-    add_groups(starts, members, size, keys);
-    Ok(())
-}
-
-// The groups of the keys below the size, one behind the other.
-fn add_groups(starts: &mut Vec<u16>, members: &mut Vec<u16>, size: usize, keys: &[u16])
-    requires empty { (starts.old.items ≡ []) × (members.old.items ≡ []) }
-    requires room { (size ≤ vec_capacity starts.old) × (length keys.now ≤ vec_capacity members.old) × (length keys.now < 65536) }
-    ensures filled { Filled keys.now size starts.new.items members.new.items }
-    ensures room { (vec_capacity starts.new ≡ vec_capacity starts.old) × (vec_capacity members.new ≡ vec_capacity members.old) }
-{
-    for key in 0..size {
-        starts.push_reserved(members.len() as u16);
-        add_group(members, keys, key);
+    // The group of the key, behind those of the keys below it.
+    fn add_group(&mut self, keys: &[u16], key: usize)
+        requires filled { IsFilled keys.now key self.old }
+        requires room { HasRoom self.old (key + 1) (length keys.now) }
+        requires few { length keys.now < 65536 }
+        ensures filled { IsFilled keys.now (key + 1) self.new }
+        ensures room { SameRoom self.old self.new }
+    {
+        self.starts.push_reserved(self.members.len() as u16);
+        push_with_key(&mut self.members, keys, key);
     }
 }
 
 // The numbers with the key, behind the others.
-fn add_group(members: &mut Vec<u16>, keys: &[u16], key: usize)
+fn push_with_key(members: &mut Vec<u16>, keys: &[u16], key: usize)
     requires { (vec_len members.old + length (with_key keys.now key) ≤ vec_capacity members.old) × (length keys.now < 65536) }
     ensures items { members.new.items ≡ members.old.items ++ with_key keys.now key }
     ensures room { vec_capacity members.new ≡ vec_capacity members.old }
 {
-    for number in 0..keys.len() {
-        if keys[number] as usize == key {
+    for (number, of) in keys.iter().enumerate() {
+        if usize::from(*of) == key {
             members.push_reserved(number as u16);
         }
     }

@@ -1,20 +1,11 @@
-use Rattle.std.proofs.Common.{cond, is_ok, vec_items, vec_capacity}
-use Rattle.groups.proofs.Rows.{rises, stays, told}
+use Rattle.std.proofs.Common.{◌≡◌, vec_items, subst, arith}
+use Rattle.groups.specs.Filling.{IsFilled}
+use Rattle.groups.proofs.Rows.{part_is}
 use Rattle.groups.proofs.Groups.fill.Goals as goal
 
-pub invariant_of-self : goal.invariant_of-self
-invariant_of-self c =
+pub returns-clause-ok : goal.returns-clause-ok
+returns-clause-ok c =
     let keys = c.args.keys.now in
-    let n = cond (is_ok c.refill.result) c.args.size 0 in
-    let starts = vec_items c.refill.new.starts in
-    let members = vec_items c.refill.new.members in
-    record { rise = rises keys n starts members c.refill.ensures.filled; within = stays keys n starts members c.refill.ensures.filled }
-
-pub returns : goal.returns
-returns c =
-    let g = c.args.self.now in
-    let e = c.refill.ensures in
-    record {
-      groups = told c.refill.result c.args.keys.now (vec_items c.refill.new.starts) (vec_items c.refill.new.members) c.args.size (vec_capacity g.starts) (vec_capacity g.members) e.filled e.few e.succeeds;
-      room = e.room;
-    }
+    let g = c.loop-key.self in
+    let all : c.loop-key.key ≡ c.args.size = omega arith in
+    part_is keys c.args.size (vec_items g.starts) (vec_items g.members) (subst (λ n. IsFilled keys n g) all c.loop-key.invariant.0)
