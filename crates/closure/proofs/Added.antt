@@ -1,6 +1,6 @@
 -- Rows with the steps along edges.
-use Rattle.std.proofs.Common.{◌≡◌, ℕ, suc, ◌+◌, ◌<◌, Bool, true, false, ◌&&◌, ◌||◌, ltb, List, get_or, replicate, sym, refl, ap, ◌∙◌, ap₂, arith}
-use Rattle.std.proofs.Math.Bool.{and-false}
+use Rattle.std.proofs.Common.{◌≡◌, ℕ, suc, ◌+◌, ◌<◌, false, ◌&&◌, ◌||◌, ltb, List, get_or, replicate, sym, ap, ◌∙◌, arith}
+use Rattle.std.proofs.Math.Bool.{and-false, and-or_distrib_left}
 use lib.ListN.{get_or-replicate}
 use Rattle.closure.specs.Rows.{in_row, holds, among, empty}
 use Rattle.closure.specs.Edges.{edge_step, steps_of, no_edge}
@@ -20,13 +20,9 @@ Upto edges rows n t = (x y : ℕ) → x < 256 → y < 256 → holds rows x y ≡
 pub begins : (edges : List Edge) (rows : List Row) (n : ℕ) → ((x y : ℕ) → x < 256 → holds rows x y ≡ false) → Upto edges rows n 0
 begins edges rows n h x y lx ly = h x y lx ∙ sym (and-false (ltb x n && ltb y n))
 
-one_more : (p s u : Bool) → (p && s || p && u) ≡ (p && (s || u))
-one_more true s u = refl
-one_more false s u = refl
-
-pub goes_on : (edges : List Edge) (was rows : List Row) (n t : ℕ) (e : Edge) → e ≡ get_or edges t no_edge → Upto edges was n t
-    → ((x y : ℕ) → x < 256 → y < 256 → holds rows x y ≡ (holds was x y || among n (edge_step e) x y)) → Upto edges rows n (t + 1)
-goes_on edges was rows n t e e-is u a x y lx ly =
-    a x y lx ly ∙ ap₂ (λ p f. p || among n (edge_step f) x y) (u x y lx ly) e-is
-    ∙ one_more (ltb x n && ltb y n) (steps_of edges t x y) (edge_step (get_or edges t no_edge) x y)
+pub goes_on : (edges : List Edge) (was rows : List Row) (n t : ℕ) → Upto edges was n t
+    → ((x y : ℕ) → x < 256 → y < 256 → holds rows x y ≡ (holds was x y || among n (edge_step (get_or edges t no_edge)) x y)) → Upto edges rows n (t + 1)
+goes_on edges was rows n t u a x y lx ly =
+    a x y lx ly ∙ ap (λ p. p || among n (edge_step (get_or edges t no_edge)) x y) (u x y lx ly)
+    ∙ sym (and-or_distrib_left (ltb x n && ltb y n) (steps_of edges t x y) (edge_step (get_or edges t no_edge) x y))
     ∙ ap (λ m. among n (steps_of edges m) x y) (let q : suc t ≡ t + 1 = omega arith in q)

@@ -1,9 +1,8 @@
 -- One round of the closure: what leads to k leads where k leads.
-use Rattle.std.proofs.Common.{◌≡◌, ℕ, suc, ◌+◌, ◌<◌, ◌≤◌, Bool, ◌&&◌, ◌||◌, ltb, List, length, sym, ap, ◌∙◌, ap₂, arith, le-ltb, lt-ltb}
-use native.Mathlib.Decide.{dec_lt}
+use Rattle.std.proofs.Common.{◌≡◌, ℕ, suc, ◌+◌, ◌<◌, ◌≤◌, Bool, ◌&&◌, ◌||◌, List, length, sym, ap, ◌∙◌, ap₂, arith}
+use Rattle.std.proofs.lemmas.Bool.Decides.{nat_tests}
 use Rattle.validity.specs.Closure.{through, leads}
 use Rattle.validity.proofs.Closed.{t_zero, t_suc, leads_inside, leads_same}
-use Rattle.validity.proofs.Bools.{same_test, is_false}
 use Rattle.closure.specs.Rows.{in_row, holds, among, OnlyBelow, told}
 use Rattle.closure.specs.declared.row.Row.{Row}
 use Rattle.closure.specs.declared.Reach.{Reach}
@@ -34,22 +33,19 @@ goes_on first was rows n k small l b j x y lx ly =
 
 pub ends : (was rows : List Row) (n : ℕ) → OnlyBelow n (holds rows) → Before was rows n n → (x y : ℕ) → x < 256 → y < 256 → holds rows x y ≡ leads n (holds was) x y
 ends was rows n w b x y lx ly =
-    same_test (holds rows x y) (leads n (holds was) x y)
-    (λ h. let i = w x y lx ly h in sym (b x y i.0 i.1) ∙ h)
-    (λ h. let i = leads_inside n (holds was) x y h in b x y i.0 i.1 ∙ h)
+    let inside = w x y lx ly in
+    let there = leads_inside n (holds was) x y in
+    let same = b x y in
+    grind arith
 
 -- What the closure of steps between numbers below n tells.
-module _ (n : ℕ) (small : n ≤ 256) (step : ℕ → ℕ → Bool) (first : List Row) (a : (x y : ℕ) → x < 256 → y < 256 → holds first x y ≡ among n step x y) where
-  first_step : (x y : ℕ) → x < n → y < n → holds first x y ≡ step x y
-  first_step x y lx ly = a x y (omega arith) (omega arith) ∙ ap₂ (λ p q. p && q && step x y) (lt-ltb x n lx) (lt-ltb y n ly)
-
-  pub tells : (r : Reach) → ((x y : ℕ) → x < 256 → y < 256 → holds r.rows x y ≡ leads n (holds first) x y) → (x y : ℕ) → told r x y ≡ leads n step x y
-  tells r c x y =
-      elim (dec_lt x 256) [
-        | no nl ↦ ap (λ b. b && ltb y 256 && holds r.rows x y) (le-ltb x 256 (omega arith)) ∙ sym (is_false (leads n step x y) (λ h. omega (arith, (leads_inside n step x y h).0)))
-        | yes lx ↦
-            elim (dec_lt y 256) [
-              | no nl ↦ ap₂ (λ a b. a && b && holds r.rows x y) (lt-ltb x 256 lx) (le-ltb y 256 (omega arith)) ∙ sym (is_false (leads n step x y) (λ h. omega (arith, (leads_inside n step x y h).1)))
-              | yes ly ↦ ap₂ (λ a b. a && b && holds r.rows x y) (lt-ltb x 256 lx) (lt-ltb y 256 ly) ∙ c x y lx ly ∙ leads_same n (holds first) step first_step x y
-            ]
-      ]
+pub tells : (n : ℕ) (step : ℕ → ℕ → Bool) (first : List Row) → n ≤ 256 → ((x y : ℕ) → x < 256 → y < 256 → holds first x y ≡ among n step x y) → (r : Reach)
+    → ((x y : ℕ) → x < 256 → y < 256 → holds r.rows x y ≡ leads n (holds first) x y) → (x y : ℕ) → told r x y ≡ leads n step x y
+tells n step first small a r c x y =
+    let inside = leads_inside n step x y in
+    let closed = c x y in
+    let same = leads_same n (holds first) step first_step x y in
+    grind (arith, nat_tests)
+  where
+    first_step : (x y : ℕ) → x < n → y < n → holds first x y ≡ step x y
+    first_step x y lx ly = let e = a x y (omega arith) (omega arith) in grind (arith, nat_tests)

@@ -6,11 +6,11 @@ ghost use Rattle.closure.specs.Rows.{told};
 ghost use Rattle.closure.specs.Edges.{edge_steps};
 ghost use Rattle.validity.specs.Closure.{leads};
 
-use relation::Relation;
-use row::Row;
-
 mod relation;
 mod row;
+
+use relation::Relation;
+use row::Row;
 
 /// An edge from one number to another; only marked ones are steps.
 // The mark is a field and no `Option`: an edge keeps its ends when its mark is taken away.

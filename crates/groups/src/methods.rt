@@ -80,7 +80,7 @@ impl Groups {
     }
 }
 
-// The numbers with the key, behind the others.
+// The numbers with the key, behind the others. There is room for them, so this takes no memory, as `extend` might.
 fn push_with_key(members: &mut Vec<u16>, keys: &[u16], key: usize)
     requires { (vec_len members.old + length (with_key keys.now key) ≤ vec_capacity members.old) × (length keys.now < 65536) }
     ensures items { members.new.items ≡ members.old.items ++ with_key keys.now key }

@@ -11,5 +11,5 @@ returns c =
     let small : n ≤ 256 = omega arith in
     let steps = c.of-relation.result in
     let last = c.close.new.self in
-    tells n small (edge_steps c.args.edges.now) steps.rows c.of-relation.ensures.steps (record { rows = last.rows })
+    tells n (edge_steps c.args.edges.now) steps.rows small c.of-relation.ensures.steps (record { rows = last.rows })
     (subst (λ m. (x y : ℕ) → x < 256 → y < 256 → holds last.rows x y ≡ leads m (holds steps.rows) x y) c.of-relation.ensures.size c.close.ensures)

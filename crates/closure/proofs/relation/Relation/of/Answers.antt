@@ -1,4 +1,4 @@
-use Rattle.std.proofs.Common.{◌≡◌, ℕ, ◌<◌, ◌||◌, min, get_or, replicate, refl, ◌∙◌, subst}
+use Rattle.std.proofs.Common.{◌≡◌, ℕ, ◌<◌, ◌||◌, min, get_or, replicate, ◌∙◌, subst}
 use Rattle.validity.proofs.Bools.{clash}
 use Rattle.closure.specs.Rows.{holds, among}
 use Rattle.closure.specs.Edges.{edge_step, no_edge}
@@ -19,4 +19,4 @@ loop-edge-preserved c =
     let now = c.add.new.self in
     let size = c.loop-edge.invariant.0 in
     let step = edge_step (get_or edges t no_edge) in
-    (c.add.ensures.size ∙ size, goes_on edges was.rows now.rows (min c.args.size 256) t (get_or edges t no_edge) refl c.loop-edge.invariant.1 (subst (λ n. (x y : ℕ) → x < 256 → y < 256 → holds now.rows x y ≡ (holds was.rows x y || among n step x y)) size c.add.ensures.steps))
+    (c.add.ensures.size ∙ size, goes_on edges was.rows now.rows (min c.args.size 256) t c.loop-edge.invariant.1 (subst (λ n. (x y : ℕ) → x < 256 → y < 256 → holds now.rows x y ≡ (holds was.rows x y || among n step x y)) size c.add.ensures.steps))
