@@ -8,7 +8,7 @@ ghost use Rattle.tables.specs.Entries.{entry_at, no_entry};
 use crate::rows::Entry;
 
 mod access;
-pub(crate) mod copying;
+mod copying;
 
 /// A file whose fields are in order, well formed and within the limits, with an entry for each; or no byte.
 /// There is room for every file.

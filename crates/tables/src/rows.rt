@@ -49,7 +49,7 @@ pub struct Suspension {
 }
 
 /// Where a field stands: the byte number of its tag, and how many states, graphs, transitions and suspensions stand in front of it.
-#[derive(Clone, Copy)]
+#[derive(Clone, Copy, Default)]
 pub struct Entry {
     pub place: u16,
     pub states: u16,

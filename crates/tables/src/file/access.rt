@@ -1,5 +1,5 @@
 // What a copied chart file holds.
-ghost use Rattle.std.specs.Prelude.{◌≡◌, length, Some};
+ghost use Rattle.std.specs.Prelude.{◌≡◌, length};
 ghost use Rattle.chart.specs.Stated.{stated_if};
 ghost use Rattle.tables.specs.Entries.{entry_if, lookup};
 ghost use Rattle.tables.specs.Views.{fields_in};
@@ -26,28 +26,14 @@ impl ChartFile {
     pub fn entry(&self, index: usize) -> Option<Entry>
         ensures { result ≡ entry_if (fields_in self.now) index }
     {
-        if index < self.entries.len() {
-            Some(self.entries[index])
-        } else {
-            None
-        }
+        self.entries.get(index).copied()
     }
 
     /// The field with this index.
     pub fn field(&self, index: usize) -> Option<Field<'_>>
         ensures { stated_if result ≡ lookup (fields_in self.now) index }
     {
-        match self.entry(index) {
-            Some(entry) => self.field_of(index, entry),
-            None => None,
-        }
-    }
-
-    // The field with this index and entry.
-    fn field_of(&self, index: usize, entry: Entry) -> Option<Field<'_>>
-        requires { Some entry ≡ entry_if (fields_in self.now) index }
-        ensures { stated_if result ≡ lookup (fields_in self.now) index }
-    {
-        field_at(self.bytes.as_slice(), entry.place as usize)
+        let entry = self.entry(index)?;
+        field_at(&self.bytes, entry.place as usize)
     }
 }

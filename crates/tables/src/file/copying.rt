@@ -17,22 +17,6 @@ const MOST_BYTES: usize = 16_384;
 // A field has three bytes at least.
 const MOST_FIELDS: usize = 5_461;
 
-const FIRST: Entry = Entry {
-    place: 0,
-    states: 0,
-    graphs: 0,
-    transitions: 0,
-    suspensions: 0,
-};
-
-// One row more, where there is room for it.
-pub(crate) fn add<T: Copy>(rows: &mut Vec<T>, row: T)
-    requires { vec_len rows.old < vec_capacity rows.old }
-    ensures { (rows.new.items ≡ rows.old.items ++ (row ∷ [])) × (vec_capacity rows.old ≤ vec_capacity rows.new) }
-{
-    let _ = rows.push(row);
-}
-
 impl ChartFile {
     /// No byte, with room for every file.
     pub fn new(heap: Global) -> Result<ChartFile, AllocError>
@@ -77,10 +61,10 @@ fn enter(bytes: &[u8], entries: &mut Vec<Entry>) -> Result<(), Refusal>
 {
     entries.clear();
     let mut reader = Reader::new(bytes);
-    let mut next = FIRST;
+    let mut next = Entry::default();
     while let Some(placed) = reader.next()? {
         next.place = placed.place as u16;
-        add(entries, next);
+        entries.push_reserved(next);
         next = next.after(&placed.field);
     }
     Ok(())
@@ -97,7 +81,7 @@ impl Entry {
             Field::Graph { .. } => self.graphs += 1,
             Field::Transition { .. } => self.transitions += 1,
             Field::Suspension { .. } => self.suspensions += 1,
-            Field::Signal { .. } | Field::Trigger { .. } | Field::Effects { .. } => {}
+            _ => {}
         }
         self
     }

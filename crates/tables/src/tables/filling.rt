@@ -7,7 +7,6 @@ ghost use Rattle.validity.specs.Parts.{index_of};
 ghost use Rattle.tables.specs.Views.{fields_in};
 
 use crate::file::ChartFile;
-use crate::file::copying::add;
 use crate::parts::Part;
 use crate::tables::Tables;
 use chart::refusals::Refusal;
@@ -74,7 +73,7 @@ fn fill<P: Part>(file: &ChartFile, rows: &mut Vec<P>)
     for index in 0..file.field_count() {
         match file.field(index) {
             Some(field) => match P::of(file, index, field) {
-                Some(row) => add(rows, row),
+                Some(row) => rows.push_reserved(row),
                 None => {}
             },
             None => {}

@@ -1,6 +1,5 @@
 // What the tables tell of a number. Of one that nothing has they tell what a row of zeros would.
-ghost use Rattle.std.specs.Prelude.{◌≡◌, ℕ, suc, ◌<◌, length, ◌==◌, slice_index_or};
-ghost use Rattle.chart.specs.Kinds.{signal_kind_code};
+ghost use Rattle.std.specs.Prelude.{◌≡◌, ℕ, suc, ◌<◌, length, slice_index_or};
 ghost use Rattle.validity.specs.Tables.{signals as signals_in, is_input_signal, states as states_in, state_kind_of, graph_of, graphs as graphs_in, owner_of, is_in, transitions as transitions_in, source_of, target_of, transition_kind_of, is_immediate, suspensions as suspensions_in, suspension_index, suspended_by};
 ghost use Rattle.tables.specs.Rows.{trigger_span_at, signal_row, state_row, graph_row, transition_row, suspension_row, no_signal, no_state, no_graph, no_transition, no_suspension};
 ghost use Rattle.tables.specs.Views.{fields_of};
@@ -86,7 +85,7 @@ impl Tables {
     pub fn is_input(&self, signal: usize) -> bool
         ensures { result ≡ is_input_signal (fields_of self.now) signal }
     {
-        is_input_kind(self.signal(signal).kind)
+        matches!(self.signal(signal).kind, SignalKind::Input)
     }
 
     pub fn kind_of(&self, state: usize) -> StateKind
@@ -150,14 +149,5 @@ impl Tables {
         ensures { result ≡ is_in (fields_of self.now) graph state }
     {
         state != 0 && self.graph_of(state) as usize == graph
-    }
-}
-
-fn is_input_kind(kind: SignalKind) -> bool
-    ensures { result ≡ (signal_kind_code kind == 0) }
-{
-    match kind {
-        SignalKind::Input => true,
-        SignalKind::Output | SignalKind::Internal => false,
     }
 }

@@ -12,32 +12,21 @@ impl Tables {
     pub fn bytes(&self, span: Span) -> &[u8]
         ensures { result.now ≡ spanned self.now.file.bytes.items span }
     {
-        let bytes = self.file.bytes();
         let start = span.start as usize;
         let end = start + span.length as usize;
-        if end <= bytes.len() {
-            &bytes[start..end]
-        } else {
-            &[]
-        }
+        self.file.bytes().get(start..end).unwrap_or(&[])
     }
 
     fn bytes_if(&self, span: Option<Span>) -> Option<&[u8]>
         ensures { lent_if result ≡ spanned_if self.now.file.bytes.items span }
     {
-        match span {
-            Some(span) => Some(self.bytes(span)),
-            None => None,
-        }
+        span.map(|span| self.bytes(span))
     }
 
     fn bytes_or(&self, span: Option<Span>) -> &[u8]
         ensures { result.now ≡ spanned_or self.now.file.bytes.items span }
     {
-        match span {
-            Some(span) => self.bytes(span),
-            None => &[],
-        }
+        span.map_or(&[], |span| self.bytes(span))
     }
 
     /// The trigger of the transition in postfix, if it has one.

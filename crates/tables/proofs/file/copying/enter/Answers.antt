@@ -11,8 +11,8 @@ use Rattle.tables.specs.Entries.{Entered}
 use Rattle.tables.proofs.Entering.{Counted, counted_more, count_most, is_behind, entered_more}
 use Rattle.tables.proofs.file.copying.enter.Goals as goal
 
-pub add-requires : goal.add-requires
-add-requires c =
+pub push_reserved-requires : goal.push_reserved-requires
+push_reserved-requires c =
     let r = c.loop-placed.reader in
     let v = c.loop-placed.entries in
     let after = c.next.new.self in
@@ -60,7 +60,7 @@ loop-placed-preserved c =
     let e : Entry = record { place = p.place; states = c.loop-placed.next.states; graphs = c.loop-placed.next.graphs; transitions = c.loop-placed.next.transitions; suspensions = c.loop-placed.next.suspensions } in
     let counts : Counted fs e = record { states = n.states; graphs = n.graphs; transitions = n.transitions; suspensions = n.suspensions } in (
       c.in_ok-placed.ensures.same ∙ same,
-      subst₂ Entered (sym more) (sym c.add.ensures.0) (entered_more fs (stated p.field) (vec_items v) e here c.loop-placed.invariant.1),
+      subst₂ Entered (sym more) (sym c.push_reserved.ensures.items) (entered_more fs (stated p.field) (vec_items v) e here c.loop-placed.invariant.1),
       subst₂ Counted (sym more) (sym c.after-next.ensures) (counted_more fs (stated p.field) e counts),
-      omega (arith, c.loop-placed.invariant.3, c.add.ensures.1),
+      omega (arith, c.loop-placed.invariant.3, c.push_reserved.ensures.capacity),
     )

@@ -5,8 +5,8 @@ use Rattle.tables.proofs.Looking.{not_behind}
 use Rattle.tables.proofs.tables.filling.fill.Goals as goal
 use Rattle.tables.proofs.tables.filling.fill.Goals.{in-Some+in-Some-of, in-Some+in-None-of, in-None}
 
-pub add-requires : goal.add-requires
-add-requires g c =
+pub push_reserved-requires : goal.push_reserved-requires
+push_reserved-requires g c =
     let fs = fields_in c.args.file.now in
     let v = c.loop-index.rows in
     let below : c.loop-index.index < length fs = omega (arith, c.loop-index-test.true, c.field_count-index-end.ensures) in
@@ -24,7 +24,7 @@ loop-index-preserved g c =
     elim c.match-field.branch [
       | in-Some+in-Some-of w ↦
           let more = filled_more makes fs row i (vec_items v) w.in-Some-of.row below w.in-Some-of.ensures c.loop-index.invariant.0 in
-          (subst (Filled makes fs row (i + 1)) (sym (ap vec_items w.rows-is ∙ w.add.ensures.0)) more, omega (arith, ap vec_capacity w.rows-is, w.add.ensures.1, c.loop-index.invariant.1))
+          (subst (Filled makes fs row (i + 1)) (sym (ap vec_items w.rows-is ∙ w.push_reserved.ensures.items)) more, omega (arith, ap vec_capacity w.rows-is, w.push_reserved.ensures.capacity, c.loop-index.invariant.1))
       | in-Some+in-None-of w ↦
           let same = filled_same makes fs row i (vec_items v) below w.in-None-of.ensures c.loop-index.invariant.0 in
           (subst (Filled makes fs row (i + 1)) (sym (ap vec_items w.rows-is)) same, omega (arith, ap vec_capacity w.rows-is, c.loop-index.invariant.1))
