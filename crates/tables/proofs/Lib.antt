@@ -4,4 +4,6 @@ pub mod Looking
 pub mod Spanning
 pub mod Within
 mod Making
+mod Numbered
+mod Tagged
 mod Filling

@@ -65,3 +65,6 @@ entry_place b fs is most i l e h =
     let same : e ≡ entry_at fs i = grind arith in
     let place : e.place ≡ place_at fs i = ap (λ (e : Entry). e.place) same in
     (place, omega (arith, place, place_below fs i l, ap length is))
+
+pub entry_there : (fs : List Field) (i : ℕ) → i < length fs → entry_if fs i ≡ Some (entry_at fs i)
+entry_there fs i l = ap (λ t. cond t (Some (entry_at fs i)) None) (lt-ltb i (length fs) l)

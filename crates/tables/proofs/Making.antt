@@ -1,10 +1,10 @@
 -- Rows made of fields.
-use Rattle.std.proofs.Common.{◌≡◌, ℕ, suc, ◌+◌, Bool, true, false, cond, List, length, Some, None, Option, sym, refl, ap, ◌∙◌, arith}
+use Rattle.std.proofs.Common.{◌≡◌, ℕ, suc, ◌+◌, Bool, true, false, cond, List, Some, None, Option, sym, refl, ap, ◌∙◌, arith}
 use Rattle.chart.specs.declared.kinds.Tag as tag
 use Rattle.chart.specs.declared.kinds.StateKind.{StateKind}
 use Rattle.chart.specs.declared.kinds.TransitionKind.{TransitionKind}
-use Rattle.chart.specs.Fields.{Field, state, transition, suspension, is, place_at}
-use Rattle.validity.specs.Parts.{state_kind_in, number_in, edge_in, bytes_in, at}
+use Rattle.chart.specs.Fields.{Field, state, transition, suspension, is}
+use Rattle.validity.specs.Parts.{state_kind_in, number_in, edge_in, at}
 use Rattle.tables.specs.declared.rows.Span.{Span}
 use Rattle.tables.specs.Rows.{span_at, trigger_span_at, effects_span_at, state_at, transition_at, suspension_at}
 
@@ -15,12 +15,12 @@ plus_two : (i : ℕ) → i + 2 ≡ suc (suc i)
 plus_two i = omega arith
 
 module _ (fs : List Field) (i : ℕ) where
-  pub state_made : (g : ℕ) (k : StateKind) (name : List ℕ) (s : Span) (e : Option Span) → state g k name ≡ at fs i → s.start ≡ place_at fs i + 6 → s.length ≡ length name → e ≡ effects_span_at fs (i + 1)
+  pub state_made : (g : ℕ) (k : StateKind) (name : List ℕ) (s : Span) (e : Option Span) → state g k name ≡ at fs i → s ≡ span_at fs 6 i → e ≡ effects_span_at fs (i + 1)
       → Some (record { kind = k; graph = g; name = s; effects = e }) ≡ cond (is tag.TheVariants.State (at fs i)) (Some (state_at fs i)) None
-  state_made g k name s e is_state start long behind =
+  state_made g k name s e is_state span behind =
       let behind' = behind ∙ ap (effects_span_at fs) (plus i) in
-      (λ j. Some (record { kind = k; graph = g; name = record { start = start j; length = long j }; effects = behind' j }))
-      ∙ ap (λ f. cond (is tag.TheVariants.State f) (Some (record { kind = state_kind_in f; graph = number_in f; name = record { start = place_at fs i + 6; length = length (bytes_in f) }; effects = effects_span_at fs (suc i) })) None) is_state
+      (λ j. Some (record { kind = k; graph = g; name = span j; effects = behind' j }))
+      ∙ ap (λ f. cond (is tag.TheVariants.State f) (Some (record { kind = state_kind_in f; graph = number_in f; name = span_at fs 6 i; effects = effects_span_at fs (suc i) })) None) is_state
 
   pub suspension_made : (s : ℕ) (t : Option Span) → suspension s ≡ at fs i → t ≡ trigger_span_at fs (i + 1)
       → Some (record { state = s; trigger = t }) ≡ cond (is tag.TheVariants.Suspension (at fs i)) (Some (suspension_at fs i)) None

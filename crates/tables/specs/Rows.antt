@@ -1,6 +1,7 @@
 -- The rows of a chart's tables, by index of a field and by number. Assumes nothing.
 use Rattle.std.specs.Prelude.{ℕ, suc, ◌+◌, false, cond, List, length, Some, None, Option}
 use Rattle.chart.specs.declared.kinds.Tag as tag
+use Rattle.chart.specs.declared.kinds.Tag.{Tag}
 use Rattle.chart.specs.declared.kinds.SignalKind.{SignalKind}
 use Rattle.chart.specs.declared.kinds.SignalKind.TheVariants.{Internal}
 use Rattle.chart.specs.declared.kinds.StateKind.TheVariants.{Simple}
@@ -30,11 +31,15 @@ module _ (fs : List Field) where
   abbrev pub span_at : ℕ → ℕ → Span
   span_at offset i = record { start = place_at fs i + offset; length = length (bytes_in (at fs i)) }
 
+  -- the same, if it is a trigger or effects with this tag
+  abbrev pub tagged_span_at : Tag → ℕ → Option Span
+  tagged_span_at t i = cond (is t (at fs i)) (Some (span_at 3 i)) None
+
   abbrev pub trigger_span_at : ℕ → Option Span
-  trigger_span_at i = cond (is tag.TheVariants.Trigger (at fs i)) (Some (span_at 3 i)) None
+  trigger_span_at = tagged_span_at tag.TheVariants.Trigger
 
   abbrev pub effects_span_at : ℕ → Option Span
-  effects_span_at i = cond (is tag.TheVariants.Effects (at fs i)) (Some (span_at 3 i)) None
+  effects_span_at = tagged_span_at tag.TheVariants.Effects
 
   -- The row of the field at i, if it is of that kind.
 

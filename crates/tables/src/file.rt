@@ -1,14 +1,20 @@
 // A copy of a chart file, and where each of its fields stands.
-ghost use Rattle.std.specs.Prelude.{◌≡◌, ℕ, ◌<◌, ◌≤◌, true, length, vec_len, vec_capacity, slice_index_or};
+ghost use Rattle.std.specs.Prelude.{◌≡◌, ◌≤◌, true, vec_len, vec_capacity};
 ghost use Rattle.chart.specs.Fields.{encode_all};
 ghost use Rattle.chart.specs.Files.{is_row};
 ghost use Rattle.chart.specs.Reading.{row_of};
-ghost use Rattle.tables.specs.Entries.{entry_at, no_entry};
+ghost use Rattle.tables.specs.declared.file.TheConstants.{MOST_BYTES, MOST_FIELDS};
+ghost use Rattle.tables.specs.Entries.{Entered};
 
 use crate::rows::Entry;
 
 mod access;
 mod copying;
+
+const MOST_BYTES: usize = 16_384;
+
+// A field has three bytes at least.
+const MOST_FIELDS: usize = 5_461;
 
 /// A file whose fields are in order, well formed and within the limits, with an entry for each; or no byte.
 /// There is room for every file.
@@ -18,9 +24,8 @@ pub struct ChartFile {
     entries: Vec<Entry>,
     ghost passed: { encode_all (row_of bytes.items) ≡ bytes.items },
     ghost row: { is_row (row_of bytes.items) ≡ true },
-    ghost most: { vec_len bytes ≤ 16384 },
-    ghost counted: { vec_len entries ≡ length (row_of bytes.items) },
-    ghost entered: { ((i : ℕ) → i < vec_len entries → slice_index_or entries.items i no_entry ≡ entry_at (row_of bytes.items) i) },
-    ghost byte_room: { 16384 ≤ vec_capacity bytes },
-    ghost entry_room: { 5461 ≤ vec_capacity entries },
+    ghost most: { vec_len bytes ≤ MOST_BYTES },
+    ghost entered: { Entered (row_of bytes.items) entries.items },
+    ghost byte_room: { MOST_BYTES ≤ vec_capacity bytes },
+    ghost entry_room: { MOST_FIELDS ≤ vec_capacity entries },
 }

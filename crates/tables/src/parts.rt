@@ -1,16 +1,18 @@
 // The kinds of rows that the tables are made of, each made of the fields of its kind.
-ghost use Rattle.std.specs.Prelude.{◌≡◌, ℕ, ◌<◌, Bool, List, length, if◌then◌else◌, Some, None};
+ghost use Rattle.std.specs.Prelude.{◌≡◌, ℕ, ◌≤◌, true, Bool, List, length, if◌then◌else◌, Some, None};
 ghost use Rattle.chart.specs.declared.kinds.Tag.TheVariants.{Signal as of_signal, State as of_state, Graph as of_graph, Transition as of_transition, Suspension as of_suspension};
-ghost use Rattle.chart.specs.Fields.{Field as AnyField, is};
-ghost use Rattle.chart.specs.Stated.{stated};
+ghost use Rattle.chart.specs.Fields.{Field as AnyField, is, encode_all};
+ghost use Rattle.chart.specs.Files.{is_row};
+ghost use Rattle.chart.specs.Limits.{count};
 ghost use Rattle.validity.specs.Parts.{at as field_at};
-ghost use Rattle.tables.specs.Rows.{signal_at, state_at, graph_at, transition_at, suspension_at};
-ghost use Rattle.tables.specs.Views.{fields_in};
+ghost use Rattle.tables.specs.Rows.{signal_at, state_at, graph_at, transition_at, suspension_at, no_signal, no_state, no_graph, no_transition, no_suspension};
+ghost use Rattle.tables.specs.Copied.{fields_in};
+ghost use Rattle.tables.specs.Most.{few_signals, few_states, few_graphs, few_transitions, few_suspensions};
 
-use crate::file::ChartFile;
+use crate::indexed::Indexed;
 use crate::rows::{Graph, Signal, Span, State, Suspension, Transition};
-use crate::spans::{effects_at, span, trigger_at};
 use chart::fields::Field;
+use chart::kinds::{SignalKind, StateKind, Tag, TransitionKind};
 
 /// A kind of row.
 pub(crate) trait Part: Copy {
@@ -19,31 +21,55 @@ pub(crate) trait Part: Copy {
     /// The row of the field with this index.
     ghost row: { List AnyField → ℕ → Self };
 
-    /// The row of the field with this index, if it makes one.
-    fn of(file: &ChartFile, index: usize, field: Field<'_>) -> Option<Self>
-        requires { (index < length (fields_in file.now)) × (stated field ≡ field_at (fields_in file.now) index) }
-        ensures { result ≡ (if makes (field_at (fields_in file.now) index) then Some (row (fields_in file.now) index) else None) };
+    ghost ZEROS: { Self };
+
+    ghost MOST: { ℕ };
+
+    /// The row that stands for nothing.
+    const ZEROS: Self;
+
+    /// No file makes more such rows.
+    const MOST: usize;
+
+    /// The row of the field, if it makes one.
+    fn of(field: &Indexed<'_>) -> Option<Self>
+        ensures { result ≡ (if makes (field_at (fields_in field.now.file.now) field.now.index) then Some (row (fields_in field.now.file.now) field.now.index) else None) };
+
+    ghost few: { (fs : List AnyField) → is_row fs ≡ true → length (encode_all fs) ≤ 16384 → count makes fs ≤ MOST };
 }
+
+const NO_SPAN: Span = Span {
+    start: 0,
+    length: 0,
+};
 
 impl Part for Signal {
     ghost makes = { is of_signal };
 
     ghost row = { signal_at };
 
-    fn of(file: &ChartFile, index: usize, field: Field<'_>) -> Option<Signal> {
-        match field {
-            Field::Signal { kind, name } => Some(Signal {
-                kind,
-                name: span(file, index, 4, name),
-            }),
-            Field::State { .. }
-            | Field::Graph { .. }
-            | Field::Transition { .. }
-            | Field::Suspension { .. }
-            | Field::Trigger { .. }
-            | Field::Effects { .. } => None,
-        }
+    ghost ZEROS = { no_signal };
+
+    ghost MOST = { 128 };
+
+    const ZEROS: Signal = Signal {
+        kind: SignalKind::Internal,
+        name: NO_SPAN,
+    };
+
+    const MOST: usize = 128;
+
+    fn of(field: &Indexed<'_>) -> Option<Signal> {
+        let Field::Signal { kind, .. } = field.field else {
+            return None;
+        };
+        Some(Signal {
+            kind,
+            name: field.span(4),
+        })
     }
+
+    ghost few = { few_signals };
 }
 
 impl Part for State {
@@ -51,22 +77,32 @@ impl Part for State {
 
     ghost row = { state_at };
 
-    fn of(file: &ChartFile, index: usize, field: Field<'_>) -> Option<State> {
-        match field {
-            Field::State { graph, kind, name } => Some(State {
-                kind,
-                graph,
-                name: span(file, index, 6, name),
-                effects: effects_at(file, index + 1),
-            }),
-            Field::Signal { .. }
-            | Field::Graph { .. }
-            | Field::Transition { .. }
-            | Field::Suspension { .. }
-            | Field::Trigger { .. }
-            | Field::Effects { .. } => None,
-        }
+    ghost ZEROS = { no_state };
+
+    ghost MOST = { 256 };
+
+    const ZEROS: State = State {
+        kind: StateKind::Simple,
+        graph: 0,
+        name: NO_SPAN,
+        effects: None,
+    };
+
+    const MOST: usize = 256;
+
+    fn of(field: &Indexed<'_>) -> Option<State> {
+        let Field::State { graph, kind, .. } = field.field else {
+            return None;
+        };
+        Some(State {
+            kind,
+            graph,
+            name: field.span(6),
+            effects: field.behind(1, Tag::Effects),
+        })
     }
+
+    ghost few = { few_states };
 }
 
 impl Part for Graph {
@@ -74,17 +110,22 @@ impl Part for Graph {
 
     ghost row = { graph_at };
 
-    fn of(_file: &ChartFile, _index: usize, field: Field<'_>) -> Option<Graph> {
-        match field {
-            Field::Graph { owner } => Some(Graph { owner }),
-            Field::Signal { .. }
-            | Field::State { .. }
-            | Field::Transition { .. }
-            | Field::Suspension { .. }
-            | Field::Trigger { .. }
-            | Field::Effects { .. } => None,
-        }
+    ghost ZEROS = { no_graph };
+
+    ghost MOST = { 128 };
+
+    const ZEROS: Graph = Graph { owner: 0 };
+
+    const MOST: usize = 128;
+
+    fn of(field: &Indexed<'_>) -> Option<Graph> {
+        let Field::Graph { owner } = field.field else {
+            return None;
+        };
+        Some(Graph { owner })
     }
+
+    ghost few = { few_graphs };
 }
 
 impl Part for Transition {
@@ -92,29 +133,42 @@ impl Part for Transition {
 
     ghost row = { transition_at };
 
-    fn of(file: &ChartFile, index: usize, field: Field<'_>) -> Option<Transition> {
-        match field {
-            Field::Transition {
-                source,
-                target,
-                kind,
-                immediate,
-            } => Some(Transition {
-                source,
-                target,
-                kind,
-                immediate,
-                trigger: trigger_at(file, index + 1),
-                effects: effects_behind(file, index),
-            }),
-            Field::Signal { .. }
-            | Field::State { .. }
-            | Field::Graph { .. }
-            | Field::Suspension { .. }
-            | Field::Trigger { .. }
-            | Field::Effects { .. } => None,
-        }
+    ghost ZEROS = { no_transition };
+
+    ghost MOST = { 512 };
+
+    const ZEROS: Transition = Transition {
+        source: 0,
+        target: 0,
+        kind: TransitionKind::Strong,
+        immediate: false,
+        trigger: None,
+        effects: None,
+    };
+
+    const MOST: usize = 512;
+
+    fn of(field: &Indexed<'_>) -> Option<Transition> {
+        let Field::Transition {
+            source,
+            target,
+            kind,
+            immediate,
+        } = field.field
+        else {
+            return None;
+        };
+        Some(Transition {
+            source,
+            target,
+            kind,
+            immediate,
+            trigger: field.behind(1, Tag::Trigger),
+            effects: effects_behind(field),
+        })
     }
+
+    ghost few = { few_transitions };
 }
 
 impl Part for Suspension {
@@ -122,29 +176,37 @@ impl Part for Suspension {
 
     ghost row = { suspension_at };
 
-    fn of(file: &ChartFile, index: usize, field: Field<'_>) -> Option<Suspension> {
-        match field {
-            Field::Suspension { state } => Some(Suspension {
-                state,
-                trigger: trigger_at(file, index + 1),
-            }),
-            Field::Signal { .. }
-            | Field::State { .. }
-            | Field::Graph { .. }
-            | Field::Transition { .. }
-            | Field::Trigger { .. }
-            | Field::Effects { .. } => None,
-        }
+    ghost ZEROS = { no_suspension };
+
+    ghost MOST = { 3276 };
+
+    const ZEROS: Suspension = Suspension {
+        state: 0,
+        trigger: None,
+    };
+
+    // A suspension has five bytes.
+    const MOST: usize = 3_276;
+
+    fn of(field: &Indexed<'_>) -> Option<Suspension> {
+        let Field::Suspension { state } = field.field else {
+            return None;
+        };
+        Some(Suspension {
+            state,
+            trigger: field.behind(1, Tag::Trigger),
+        })
     }
+
+    ghost few = { few_suspensions };
 }
 
-// The effects of the transition with this index: behind its trigger, or directly behind it.
-fn effects_behind(file: &ChartFile, index: usize) -> Option<Span>
-    requires { index < length (fields_in file.now) }
-    ensures { result ≡ (transition_at (fields_in file.now) index).effects }
+// The effects of a transition: behind its trigger, or directly behind it.
+fn effects_behind(field: &Indexed<'_>) -> Option<Span>
+    ensures { result ≡ (transition_at (fields_in field.now.file.now) field.now.index).effects }
 {
-    match trigger_at(file, index + 1) {
-        Some(_) => effects_at(file, index + 2),
-        None => effects_at(file, index + 1),
+    match field.behind(1, Tag::Trigger) {
+        Some(_) => field.behind(2, Tag::Effects),
+        None => field.behind(1, Tag::Effects),
     }
 }

@@ -2,7 +2,7 @@
 ghost use Rattle.std.specs.Prelude.{◌≡◌, length};
 ghost use Rattle.chart.specs.Stated.{stated_if};
 ghost use Rattle.tables.specs.Entries.{entry_if, lookup};
-ghost use Rattle.tables.specs.Views.{fields_in};
+ghost use Rattle.tables.specs.Copied.{fields_in};
 
 use crate::file::ChartFile;
 use crate::rows::Entry;

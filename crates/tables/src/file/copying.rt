@@ -5,17 +5,12 @@ ghost use Rattle.chart.specs.Reading.{row_of};
 ghost use Rattle.chart.specs.Stated.{stated};
 ghost use Rattle.tables.specs.Entries.{Entered, counted};
 
-use crate::file::ChartFile;
+use crate::file::{ChartFile, MOST_BYTES, MOST_FIELDS};
 use crate::rows::Entry;
 use chart::fields::Field;
 use chart::reader::Reader;
 use chart::refusals::Refusal;
 use std::alloc::{AllocError, Global};
-
-const MOST_BYTES: usize = 16_384;
-
-// A field has three bytes at least.
-const MOST_FIELDS: usize = 5_461;
 
 impl ChartFile {
     /// No byte, with room for every file.
@@ -55,8 +50,8 @@ impl ChartFile {
 
 // An entry for each field of the file, or why it is refused.
 fn enter(bytes: &[u8], entries: &mut Vec<Entry>) -> Result<(), Refusal>
-    requires { 5461 ≤ vec_capacity entries.old }
-    ensures room { 5461 ≤ vec_capacity entries.new }
+    requires { MOST_FIELDS ≤ vec_capacity entries.old }
+    ensures room { MOST_FIELDS ≤ vec_capacity entries.new }
     ensures cases { MatchResult result (λ _. Passes bytes.now (row_of bytes.now) × Entered (row_of bytes.now) entries.new.items) (λ e. Refused bytes.now e) }
 {
     entries.clear();
@@ -93,5 +88,5 @@ fn copy(bytes: &[u8], into: &mut Vec<u8>)
     ensures { (into.new.items ≡ bytes.now) × (vec_capacity into.old ≤ vec_capacity into.new) }
 {
     into.clear();
-    let _ = into.extend_from_slice(bytes);
+    into.extend_from_slice(bytes).unwrap();
 }

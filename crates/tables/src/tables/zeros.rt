@@ -6,40 +6,8 @@ ghost use Rattle.tables.specs.Rows.{trigger_span_at, signal_name_of, state_name_
 ghost use Rattle.tables.specs.Spans.{spanned, spanned_if, spanned_or};
 ghost use Rattle.tables.specs.Views.{fields_of};
 
-use crate::rows::{Graph, Signal, Span, State, Suspension, Transition};
+use crate::rows::{Graph, Signal, State, Suspension, Transition};
 use crate::tables::Tables;
-use chart::kinds::{SignalKind, StateKind, TransitionKind};
-
-const NO_SPAN: Span = Span {
-    start: 0,
-    length: 0,
-};
-
-const NO_SIGNAL: Signal = Signal {
-    kind: SignalKind::Internal,
-    name: NO_SPAN,
-};
-
-const NO_STATE: State = State {
-    kind: StateKind::Simple,
-    graph: 0,
-    name: NO_SPAN,
-    effects: None,
-};
-
-const NO_TRANSITION: Transition = Transition {
-    source: 0,
-    target: 0,
-    kind: TransitionKind::Strong,
-    immediate: false,
-    trigger: None,
-    effects: None,
-};
-
-const NO_SUSPENSION: Suspension = Suspension {
-    state: 0,
-    trigger: None,
-};
 
 impl Tables {
     // The signal with this number.
@@ -47,10 +15,7 @@ impl Tables {
         ensures kind { (signal_kind_code result.kind == 0) ≡ is_input_signal (fields_of self.now) signal }
         ensures name { spanned self.now.file.bytes.items result.name ≡ signal_name_of (fields_of self.now) signal }
     {
-        match self.signals.get(signal) {
-            Some(row) => *row,
-            None => NO_SIGNAL,
-        }
+        self.signals.row(signal)
     }
 
     // The state with this number.
@@ -60,20 +25,14 @@ impl Tables {
         ensures name { spanned self.now.file.bytes.items result.name ≡ state_name_of (fields_of self.now) state }
         ensures effects { spanned_or self.now.file.bytes.items result.effects ≡ sustained_by (fields_of self.now) state }
     {
-        match self.states.get(state) {
-            Some(row) => *row,
-            None => NO_STATE,
-        }
+        self.states.row(state)
     }
 
     // The graph with this number.
     pub(crate) fn graph(&self, graph: usize) -> Graph
         ensures owner { result.owner ≡ owner_of (fields_of self.now) graph }
     {
-        match self.graphs.get(graph) {
-            Some(row) => *row,
-            None => Graph { owner: 0 },
-        }
+        self.graphs.row(graph)
     }
 
     // The transition with this number.
@@ -85,10 +44,7 @@ impl Tables {
         ensures trigger { spanned_if self.now.file.bytes.items result.trigger ≡ trigger_of (fields_of self.now) transition }
         ensures effects { spanned_or self.now.file.bytes.items result.effects ≡ emitted_by (fields_of self.now) transition }
     {
-        match self.transitions.get(transition) {
-            Some(row) => *row,
-            None => NO_TRANSITION,
-        }
+        self.transitions.row(transition)
     }
 
     // The suspension with this number.
@@ -96,9 +52,6 @@ impl Tables {
         ensures state { result.state ≡ suspended_by (fields_of self.now) suspension }
         ensures trigger { result.trigger ≡ trigger_span_at (fields_of self.now) (suc (suspension_index (fields_of self.now) suspension)) }
     {
-        match self.suspensions.get(suspension) {
-            Some(row) => *row,
-            None => NO_SUSPENSION,
-        }
+        self.suspensions.row(suspension)
     }
 }

@@ -1,6 +1,6 @@
 use Rattle.std.proofs.Common.{vec_items, ap, ◌∙◌}
 use Rattle.chart.specs.Lookup.{field_at}
-use Rattle.tables.specs.Views.{fields_in}
+use Rattle.tables.specs.Copied.{fields_in}
 use Rattle.tables.proofs.Looking.{looked_up}
 use Rattle.tables.proofs.file.ChartFile.field.Goals as goal
 

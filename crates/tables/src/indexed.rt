@@ -1,0 +1,87 @@
+// A field of a chart file with its index, and where its bytes stand.
+ghost use Rattle.std.specs.Prelude.{◌≡◌, ◌+◌, ◌<◌, ◌≤◌, false, length, MatchOption};
+ghost use Rattle.chart.specs.Fields.{graph, is, place_at};
+ghost use Rattle.chart.specs.Stated.{stated};
+ghost use Rattle.validity.specs.Parts.{at as field_at, bytes_in};
+ghost use Rattle.tables.specs.Rows.{span_at, tagged_span_at};
+ghost use Rattle.tables.specs.Copied.{fields_in};
+
+use crate::file::ChartFile;
+use crate::rows::Span;
+use chart::fields::Field;
+use chart::kinds::Tag;
+
+/// A field of a chart file, and its index there.
+#[derive(Clone, Copy)]
+pub(crate) struct Indexed<'a> {
+    file: &'a ChartFile,
+    index: usize,
+    pub(crate) field: Field<'a>,
+    ghost inside: { index < length (fields_in file.now) },
+    ghost same: { stated field ≡ field_at (fields_in file.now) index },
+}
+
+impl ChartFile {
+    // The field with this index.
+    pub(crate) fn indexed(&self, index: usize) -> Option<Indexed<'_>>
+        ensures { MatchOption result (length (fields_in self.now) ≤ index) (λ f. (f.file.now ≡ self.now) × (f.index ≡ index)) }
+    {
+        let field = self.field(index)?;
+        Some(Indexed {
+            file: self,
+            index,
+            field,
+        })
+    }
+}
+
+impl Indexed<'_> {
+    // The name of the field, its postfix or its signals.
+    fn bytes(&self) -> &[u8]
+        ensures { result.now ≡ bytes_in (stated self.now.field) }
+    {
+        match self.field {
+            Field::Signal { name, .. } | Field::State { name, .. } => name,
+            Field::Trigger { postfix } => postfix,
+            Field::Effects { signals } => signals,
+            _ => &[],
+        }
+    }
+
+    fn place(&self) -> u16
+        ensures { (result ≡ place_at (fields_in self.now.file.now) self.now.index) × (result ≤ 16384) }
+    {
+        self.file.entry(self.index).unwrap().place
+    }
+
+    // Where the bytes of the field stand, so many behind its tag.
+    pub(crate) fn span(&self, offset: u16) -> Span
+        requires { offset ≤ 6 }
+        ensures { result ≡ span_at (fields_in self.now.file.now) offset self.now.index }
+    {
+        Span {
+            start: self.place() + offset,
+            length: self.bytes().len() as u16,
+        }
+    }
+
+    // Where the bytes of a trigger or of effects stand, if the field has this tag.
+    fn tagged_span(&self, tag: Tag) -> Option<Span>
+        ensures { result ≡ tagged_span_at (fields_in self.now.file.now) tag self.now.index }
+    {
+        if self.field.tag() == tag {
+            Some(self.span(3))
+        } else {
+            None
+        }
+    }
+
+    // The same of the field so many behind. Where there is none, definitions see a graph.
+    pub(crate) fn behind(&self, distance: usize, tag: Tag) -> Option<Span>
+        requires near { distance ≤ 2 }
+        requires no_graph { is tag (graph 0) ≡ false }
+        ensures { result ≡ tagged_span_at (fields_in self.now.file.now) tag (self.now.index + distance) }
+    {
+        self.file.indexed(self.index + distance)?.tagged_span(tag)
+    }
+}
