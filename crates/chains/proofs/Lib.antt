@@ -1,4 +1,3 @@
-pub mod Loops
-mod Ended
-mod Marked
+mod Found
 mod Levels
+pub mod Loops

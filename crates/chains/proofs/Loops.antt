@@ -1,9 +1,9 @@
 -- Loops that test numbers one by one. At n the test answers r.
-use Rattle.std.proofs.Common.{◌≡◌, ℕ, zero, suc, ◌+◌, ◌-◌, ◌<◌, Bool, true, false, cond, ◌&&◌, ◌||◌, sym, refl, ap, ◌∙◌, ap₂, ⊎_elim, arith}
+use Rattle.std.proofs.Common.{◌≡◌, ℕ, zero, suc, ◌+◌, ◌-◌, ◌<◌, Bool, true, false, cond, ◌||◌, sym, refl, ap, ◌∙◌, ap₂, ⊎_elim, arith}
 use Rattle.std.proofs.lemmas.Bool.{cases_order}
-use Rattle.validity.specs.Ranges.{any_of, all_of, least_of}
-use Rattle.validity.proofs.Bools.{clash, neither, is_false}
-use Rattle.validity.proofs.Folds.{any_of_in, any_of_none, all_of_at, least_found, least_least}
+use Rattle.validity.specs.Ranges.{any_of, least_of}
+use Rattle.validity.proofs.Bools.{clash, neither}
+use Rattle.validity.proofs.Folds.{any_of_in, any_of_none, least_found, least_least}
 
 module _ (p : ℕ → Bool) (n : ℕ) (r : Bool) (here : r ≡ p n) where
   -- Some number passes.
@@ -13,14 +13,6 @@ module _ (p : ℕ → Bool) (n : ℕ) (r : Bool) (here : r ≡ p n) where
 
   pub any_here : (m : ℕ) → n < m → r ≡ true → true ≡ any_of m p
   any_here m l e = sym (any_of_in m p n l (sym here ∙ e))
-
-  -- Each number passes.
-
-  pub all_more : all_of n p ≡ true → r ≡ true → all_of (n + 1) p ≡ true
-  all_more h e = ap (λ m. all_of m p) (let q : n + 1 ≡ suc n = omega arith in q) ∙ ap₂ (λ a b. a && b) h (sym here ∙ e)
-
-  pub all_not : (m : ℕ) → n < m → r ≡ false → false ≡ all_of m p
-  all_not m l e = sym (is_false (all_of m p) (λ h. clash (all_of_at m p h n l) (sym here ∙ e)))
 
   -- The least that passes.
 
@@ -38,9 +30,6 @@ module _ (p : ℕ → Bool) (n : ℕ) (r : Bool) (here : r ≡ p n) where
 
 pub any_end : (p : ℕ → Bool) (m n : ℕ) → n ≡ m → any_of n p ≡ false → false ≡ any_of m p
 any_end p m n q h = sym h ∙ ap (λ k. any_of k p) q
-
-pub all_end : (p : ℕ → Bool) (m n : ℕ) → n ≡ m → all_of n p ≡ true → true ≡ all_of m p
-all_end p m n q h = sym h ∙ ap (λ k. all_of k p) q
 
 -- where none passes, the last
 pub least_end : (p : ℕ → Bool) (m n : ℕ) → n ≡ m → any_of n p ≡ false → m - 1 ≡ least_of m p

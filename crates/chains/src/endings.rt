@@ -1,102 +1,77 @@
 // Graphs and macrostates that may end on entry, by what chain transitions lead to.
-ghost use Rattle.std.specs.Prelude.{◌≡◌, ℕ, ◌-◌, ◌<◌, false, get_or, slice_index_or};
+ghost use Rattle.std.specs.Prelude.{◌≡◌, ℕ, ◌<◌, false, slice_index_or};
 ghost use Rattle.closure.specs.Rows.{told};
-ghost use Rattle.validity.specs.Parts.{is_final, is_macro};
-ghost use Rattle.validity.specs.Tables.{states as states_in, graphs as graphs_in, initial_of, graph_may_end};
+ghost use Rattle.validity.specs.Tables.{graphs as graphs_in, initial_of, graph_may_end, may_end, is_chain_by};
 ghost use Rattle.tables.specs.Views.{fields_of};
-ghost use Rattle.chains.specs.Ends.{ends_at, lets_end, may_end_if};
+ghost use Rattle.chains.specs.Ends.{lets_end};
 
-use chart::kinds::StateKind;
+use chart::kinds::{StateKind, TransitionKind};
 use closure::Reach;
 use tables::tables::Tables;
 
-// For each graph whether it may end on entry.
-pub(crate) fn graphs_may_end(tables: &Tables, reach: &Reach) -> [bool; 128]
-    ensures { (g : ℕ) → g < graphs_in (fields_of tables.now) → slice_index_or result g false ≡ graph_may_end (fields_of tables.now) (told reach.now) g }
-{
-    let mut ends = [false; 128];
-    for graph in 0..tables.graph_count() {
-        ends[graph] = graph_may_end(tables, reach, graph);
-    }
-    ends
+// A chart with what chain transitions lead to, and which graphs may end on entry by that.
+#[derive(Drop)]
+pub(crate) struct Endings<'a> {
+    tables: &'a Tables,
+    reach: &'a Reach,
+    // By number of the graph, whether it may end.
+    ends: [bool; 128],
+    ghost ends_told: { ((g : ℕ) → g < graphs_in (fields_of tables.now) → slice_index_or ends g false ≡ graph_may_end (fields_of tables.now) (told reach.now) g) },
 }
 
-// Each graph of the macrostate may end.
-pub(crate) fn may_end(tables: &Tables, ends: &[bool; 128], state: usize) -> bool
-    ensures { result ≡ may_end_if (fields_of tables.now) (λ g. get_or ends.now g false) state }
-{
-    if !is_macro(tables.kind_of(state)) {
-        return false;
+impl<'a> Endings<'a> {
+    pub(crate) fn of(tables: &'a Tables, reach: &'a Reach) -> Endings<'a>
+        ensures { (result.tables.now ≡ tables.now) × (result.reach.now ≡ reach.now) }
+    {
+        let graphs = tables.graph_count();
+        let ends = std::array::from_fn(|graph| graph < graphs && graph_may_end(tables, reach, graph));
+        Endings { tables, reach, ends }
     }
-    for graph in 0..tables.graph_count() {
-        if !lets_end(tables, ends, state, graph) {
-            return false;
-        }
-    }
-    true
-}
 
-// The graph is another state's, or may end.
-fn lets_end(tables: &Tables, ends: &[bool; 128], state: usize, graph: usize) -> bool
-    requires { graph < 128 }
-    ensures { result ≡ lets_end (fields_of tables.now) (λ g. get_or ends.now g false) state graph }
-{
-    tables.owner_of(graph) as usize != state || ends[graph]
+    // An immediate transition, or a normal one whose source may end on entry.
+    pub(crate) fn is_chain(&self, transition: usize) -> bool
+        ensures { result ≡ is_chain_by (fields_of self.now.tables.now) (told self.now.reach.now) transition }
+    {
+        self.tables.is_immediate(transition)
+            || matches!(self.tables.transition_kind_of(transition), TransitionKind::Normal)
+                && self.may_end(self.tables.source_of(transition) as usize)
+    }
+
+    // Each graph of the macrostate may end.
+    fn may_end(&self, state: usize) -> bool
+        ensures { result ≡ may_end (fields_of self.now.tables.now) (told self.now.reach.now) state }
+    {
+        matches!(self.tables.kind_of(state), StateKind::Macro)
+            && (0..self.tables.graph_count()).all(|graph| self.lets_end(state, graph))
+    }
+
+    // The graph is another state's, or may end.
+    fn lets_end(&self, state: usize, graph: usize) -> bool
+        requires { graph < graphs_in (fields_of self.now.tables.now) }
+        ensures { result ≡ lets_end (fields_of self.now.tables.now) (graph_may_end (fields_of self.now.tables.now) (told self.now.reach.now)) state graph }
+    {
+        self.tables.owner_of(graph) as usize != state || self.ends[graph]
+    }
 }
 
 // In the graph a final state is the initial one or is reached from it.
 fn graph_may_end(tables: &Tables, reach: &Reach, graph: usize) -> bool
     ensures { result ≡ graph_may_end (fields_of tables.now) (told reach.now) graph }
 {
-    let first = initial_state(tables, graph);
-    for state in 0..tables.state_count() {
-        if ends_at(tables, reach, first, graph, state) {
-            return true;
-        }
-    }
-    false
-}
-
-fn ends_at(tables: &Tables, reach: &Reach, initial: usize, graph: usize, state: usize) -> bool
-    ensures { result ≡ ends_at (fields_of tables.now) (told reach.now) initial graph state }
-{
-    tables.is_in(graph, state)
-        && is_final(tables.kind_of(state))
-        && (initial == state || reach.leads(initial, state))
+    let initial = initial_state(tables, graph);
+    (0..tables.state_count()).any(|state| {
+        tables.is_in(graph, state)
+            && matches!(tables.kind_of(state), StateKind::Final)
+            && (initial == state || reach.leads(initial, state))
+    })
 }
 
 /// The first state of the graph; of a graph without states, the last state of all.
 pub fn initial_state(tables: &Tables, graph: usize) -> usize
     ensures { result ≡ initial_of (fields_of tables.now) graph }
 {
-    for state in 0..tables.state_count() {
-        if tables.is_in(graph, state) {
-            return state;
-        }
-    }
-    last_state(tables)
-}
-
-fn last_state(tables: &Tables) -> usize
-    ensures { result ≡ states_in (fields_of tables.now) - 1 }
-{
-    tables.state_count().saturating_sub(1)
-}
-
-fn is_final(kind: StateKind) -> bool
-    ensures { result ≡ is_final kind }
-{
-    match kind {
-        StateKind::Final => true,
-        StateKind::Simple | StateKind::Macro => false,
-    }
-}
-
-fn is_macro(kind: StateKind) -> bool
-    ensures { result ≡ is_macro kind }
-{
-    match kind {
-        StateKind::Macro => true,
-        StateKind::Simple | StateKind::Final => false,
-    }
+    let states = tables.state_count();
+    (0..states)
+        .find(|state| tables.is_in(graph, *state))
+        .unwrap_or(states.saturating_sub(1))
 }

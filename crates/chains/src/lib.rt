@@ -1,27 +1,24 @@
 // The chain transitions of a chart, and which states they lead to which.
 #![tactic(auto)]
 
-ghost use Rattle.std.specs.Prelude.{◌≡◌, ℕ, ◌<◌, false, slice_index_or};
+ghost use Rattle.std.specs.Prelude.{◌≡◌, ℕ, false, slice_index_or};
 ghost use Rattle.closure.specs.Rows.{told};
-ghost use Rattle.validity.specs.Parts.{is_normal};
-ghost use Rattle.validity.specs.Tables.{transitions as transitions_in, is_immediate, is_chain_by, is_chain, chain_leads};
+ghost use Rattle.validity.specs.Tables.{is_chain_by, is_chain, chain_leads};
 ghost use Rattle.tables.specs.Views.{fields_of};
-ghost use Rattle.chains.specs.Ends.{is_chain_if};
-ghost use Rattle.chains.specs.Marks.{marked, MarkedBy, Remarked, others_below};
+ghost use Rattle.chains.specs.Marks.{marked};
 
-use chart::kinds::TransitionKind;
 use closure::{Edge, Reach};
 use tables::tables::Tables;
 
 pub mod endings;
 
-use endings::{graphs_may_end, may_end};
+use endings::Endings;
 
 /// The chain transitions of a chart, and which states they lead to which.
 #[derive(Drop)]
 pub struct Chains {
-    // The transitions by number; the chain transitions are marked.
-    edges: [Edge; 512],
+    // By number of the transition, whether it is a chain transition.
+    marks: [bool; 512],
     reach: Reach,
 }
 
@@ -32,22 +29,24 @@ impl Chains {
         ensures chain { (t : ℕ) → marked result t ≡ is_chain (fields_of tables.now) t }
         ensures leads { (x y : ℕ) → told result.reach x y ≡ chain_leads (fields_of tables.now) (is_chain (fields_of tables.now)) x y }
     {
-        let mut edges = immediate_edges(tables);
-        let mut reach = Reach::of(tables.state_count(), &edges);
+        let mut marks = std::array::from_fn(|transition| tables.is_immediate(transition));
+        let mut reach = reach_by(tables, &marks);
         for _turn in 0..8usize {
-            if !mark(tables, &reach, &mut edges) {
+            let next = chain_marks(tables, &reach);
+            if next == marks {
                 break;
             }
-            reach = Reach::of(tables.state_count(), &edges);
+            reach = reach_by(tables, &next);
+            marks = next;
         }
-        Chains { edges, reach }
+        Chains { marks, reach }
     }
 
     /// Whether the transition with this number is a chain transition.
     pub fn is_chain(&self, transition: usize) -> bool
         ensures { result ≡ marked self.now transition }
     {
-        transition < 512 && self.edges[transition].marked
+        matches!(self.marks.get(transition), Some(true))
     }
 
     /// Whether chain transitions lead from one state to the other, one at least.
@@ -58,54 +57,22 @@ impl Chains {
     }
 }
 
-// The transitions, where the immediate ones are marked.
-fn immediate_edges(tables: &Tables) -> [Edge; 512]
-    ensures { MarkedBy (fields_of tables.now) result (is_immediate (fields_of tables.now)) }
+// Of each number, whether it is a chain transition by what those marked so far lead to.
+fn chain_marks(tables: &Tables, reach: &Reach) -> [bool; 512]
+    ensures { (t : ℕ) → slice_index_or result t false ≡ is_chain_by (fields_of tables.now) (told reach.now) t }
 {
-    let mut edges = [Edge {
-        source: 0,
-        target: 0,
-        marked: false,
-    }; 512];
-    for transition in 0..512 {
-        edges[transition] = Edge {
-            source: tables.source_of(transition),
-            target: tables.target_of(transition),
-            marked: tables.is_immediate(transition),
-        };
-    }
-    edges
+    let endings = Endings::of(tables, reach);
+    std::array::from_fn(|transition| endings.is_chain(transition))
 }
 
-// Marks the chain transitions by what those marked so far lead to, and tells whether a mark changed.
-fn mark(tables: &Tables, reach: &Reach, edges: &mut [Edge; 512]) -> bool
-    ensures marks { Remarked (transitions_in (fields_of tables.now)) edges.old edges.new (is_chain_by (fields_of tables.now) (told reach.now)) }
-    ensures changed { result ≡ others_below (transitions_in (fields_of tables.now)) edges.old (is_chain_by (fields_of tables.now) (told reach.now)) }
+// What the marked transitions lead to.
+fn reach_by(tables: &Tables, marks: &[bool; 512]) -> Reach
+    ensures { (x y : ℕ) → told result x y ≡ chain_leads (fields_of tables.now) (λ t. slice_index_or marks.now t false) x y }
 {
-    let ends = graphs_may_end(tables, reach);
-    let mut changed = false;
-    for transition in 0..tables.transition_count() {
-        let marked = is_chain_by(tables, &ends, transition);
-        changed |= edges[transition].marked != marked;
-        edges[transition].marked = marked;
-    }
-    changed
-}
-
-// An immediate transition, or a normal one whose source may end on entry.
-fn is_chain_by(tables: &Tables, ends: &[bool; 128], transition: usize) -> bool
-    ensures { result ≡ is_chain_if (fields_of tables.now) (λ g. slice_index_or ends.now g false) transition }
-{
-    tables.is_immediate(transition)
-        || is_normal(tables.transition_kind_of(transition))
-            && may_end(tables, ends, tables.source_of(transition) as usize)
-}
-
-fn is_normal(kind: TransitionKind) -> bool
-    ensures { result ≡ is_normal kind }
-{
-    match kind {
-        TransitionKind::Normal => true,
-        TransitionKind::Strong | TransitionKind::Weak => false,
-    }
+    let edges: [Edge; 512] = std::array::from_fn(|transition| Edge {
+        source: tables.source_of(transition),
+        target: tables.target_of(transition),
+        marked: marks[transition],
+    });
+    Reach::of(tables.state_count(), &edges[..tables.transition_count()])
 }
