@@ -8,7 +8,7 @@ use Rattle.std.proofs.lemmas.List.{get_or_past}
 use denote.Param.Members.{Mut}
 use native.Mathlib.Decide.{ℕ_discrete, dec_lt}
 use Rattle.validity.specs.Ranges.{any_of, least_of, or_else}
-use Rattle.chains.proofs.Loops.{least_end}
+use Rattle.validity.proofs.Bools.{neither}
 
 find_last : (p : ℕ → Bool) (a n j : ℕ) → a + n ≡ j → find p (range_with_len a (suc n)) ≡ or_else (find p (range_with_len a n)) (cond (p j) (Some j) None)
 find_last p a zero j e = let h : a ≡ j = omega arith in ap (λ k. cond (p k) (Some k) None) h
@@ -30,13 +30,20 @@ same_option : (o : Option ℕ) → option_map (λ x. x) o ≡ o
 same_option None = refl
 same_option (Some x) = refl
 
--- where none is found, the last
+-- where none passes, the last
+least_end : (n : ℕ) (p : ℕ → Bool) → any_of n p ≡ false → n - 1 ≡ least_of n p
+least_end zero p h = refl
+least_end (suc n) p h =
+    let e : suc n - 1 ≡ n = omega arith in
+    e ∙ sym (ap (λ b. cond b (least_of n p) n) (neither (any_of n p) (p n) h).0)
+
+-- what a search finds, or the last where it finds none
 pub is_least_of : (n : ℕ) (p : ℕ → Bool) (o : Option ℕ) → option_map (λ x. x) o ≡ find p (range_with_len 0 n) → unwrap_or o (n - 1) ≡ least_of n p
 is_least_of n p o h = ap (λ o. unwrap_or o (n - 1)) (sym (same_option o) ∙ h ∙ find_below n p) ∙ go (any_of n p) refl
   where
     go : (b : Bool) → any_of n p ≡ b → unwrap_or (cond b (Some (least_of n p)) None) (n - 1) ≡ least_of n p
     go true e = refl
-    go false e = least_end p n n refl e
+    go false e = least_end n p e
 
 module _ {F B : Type 0} (g : Mut F (ℕ × Unit {0}) B) (f : F) (ys : List B) (h : ℕ → B) (says : (i : ℕ) (y : B) (q : F) → Called g f (i, tt) y q → (q ≡ f) × (y ≡ h i)) (e : B) where
   made_from : (n i : ℕ) → IsFromFnResultFrom g f ys i n → (k : ℕ) → i ≤ k → k < i + n → get_or ys k e ≡ h k

@@ -58,7 +58,7 @@ module _ (fs : List Field) (n : ℕ) (same : chain_within fs (suc n) ≡ chain_w
 -- What marked edges lead to.
 
 module _ (fs : List Field) (edges : List Edge) (chain : ℕ → Bool) (n : ℕ) (all : n ≡ transitions fs) (long : n ≡ length (take n edges))
-  (told_at : (t : ℕ) → t < n → get_or edges t no_edge ≡ record { source = source_of fs t; target = target_of fs t; marked = chain t }) where
+    (told_at : (t : ℕ) → t < n → get_or edges t no_edge ≡ record { source = source_of fs t; target = target_of fs t; marked = chain t }) where
   steps_are : (x y : ℕ) → edge_steps (take n edges) x y ≡ chain_step fs chain x y
   steps_are x y =
       let step = λ (e : Edge). eqb e.source x && eqb e.target y && e.marked in
@@ -84,7 +84,7 @@ pub turned_at : (fs : List Field) (marks : List Bool) (reach : Reach) (n : ℕ) 
 turned_at fs marks reach n m h = record { marked = m; leads_to = λ x y. h x y ∙ ap (λ c. chain_leads fs c x y) (λ i t. m t i) }
 
 module _ (fs : List Field) (marks next : List Bool) (reach : Reach) (n : ℕ) (turned : Turned fs marks reach n)
-  (by_reach : (t : ℕ) → get_or next t false ≡ is_chain_by fs (told reach) t) where
+    (by_reach : (t : ℕ) → get_or next t false ≡ is_chain_by fs (told reach) t) where
   pub next_marks : (t : ℕ) → get_or next t false ≡ chain_within fs (suc n) t
   next_marks t =
       let e : told reach ≡ chain_leads fs (chain_within fs n) = λ i x y. turned.leads_to x y i in

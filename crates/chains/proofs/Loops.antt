@@ -1,8 +1,8 @@
 -- Loops that test numbers one by one. At n the test answers r.
-use Rattle.std.proofs.Common.{◌≡◌, ℕ, zero, suc, ◌+◌, ◌-◌, ◌<◌, Bool, true, false, cond, ◌||◌, sym, refl, ap, ◌∙◌, ap₂, ⊎_elim, arith}
+use Rattle.std.proofs.Common.{◌≡◌, ℕ, suc, ◌+◌, ◌<◌, Bool, true, false, ◌||◌, sym, ap, ◌∙◌, ap₂, ⊎_elim, arith}
 use Rattle.std.proofs.lemmas.Bool.{cases_order}
 use Rattle.validity.specs.Ranges.{any_of, least_of}
-use Rattle.validity.proofs.Bools.{clash, neither}
+use Rattle.validity.proofs.Bools.{clash}
 use Rattle.validity.proofs.Folds.{any_of_in, any_of_none, least_found, least_least}
 
 module _ (p : ℕ → Bool) (n : ℕ) (r : Bool) (here : r ≡ p n) where
@@ -30,11 +30,3 @@ module _ (p : ℕ → Bool) (n : ℕ) (r : Bool) (here : r ≡ p n) where
 
 pub any_end : (p : ℕ → Bool) (m n : ℕ) → n ≡ m → any_of n p ≡ false → false ≡ any_of m p
 any_end p m n q h = sym h ∙ ap (λ k. any_of k p) q
-
--- where none passes, the last
-pub least_end : (p : ℕ → Bool) (m n : ℕ) → n ≡ m → any_of n p ≡ false → m - 1 ≡ least_of m p
-least_end p zero n q h = refl
-least_end p (suc m) n q h =
-    let a : any_of m p ≡ false = (neither (any_of m p) (p m) (sym (ap (λ k. any_of k p) q) ∙ h)).0 in
-    let e : suc m - 1 ≡ m = omega arith in
-    e ∙ sym (ap (λ b. cond b (least_of m p) m) a)

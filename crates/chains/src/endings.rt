@@ -7,6 +7,7 @@ ghost use Rattle.chains.specs.Ends.{lets_end};
 
 use chart::kinds::{StateKind, TransitionKind};
 use closure::Reach;
+use std::array;
 use tables::tables::Tables;
 
 // A chart with what chain transitions lead to, and which graphs may end on entry by that.
@@ -24,16 +25,21 @@ impl<'a> Endings<'a> {
         ensures { (result.tables.now ≡ tables.now) × (result.reach.now ≡ reach.now) }
     {
         let graphs = tables.graph_count();
-        let ends = std::array::from_fn(|graph| graph < graphs && graph_may_end(tables, reach, graph));
-        Endings { tables, reach, ends }
+        let ends = array::from_fn(|graph| graph < graphs && graph_may_end(tables, reach, graph));
+        Endings {
+            tables,
+            reach,
+            ends,
+        }
     }
 
     // An immediate transition, or a normal one whose source may end on entry.
     pub(crate) fn is_chain(&self, transition: usize) -> bool
         ensures { result ≡ is_chain_by (fields_of self.now.tables.now) (told self.now.reach.now) transition }
     {
+        let kind = self.tables.transition_kind_of(transition);
         self.tables.is_immediate(transition)
-            || matches!(self.tables.transition_kind_of(transition), TransitionKind::Normal)
+            || matches!(kind, TransitionKind::Normal)
                 && self.may_end(self.tables.source_of(transition) as usize)
     }
 

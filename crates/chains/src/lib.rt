@@ -8,6 +8,7 @@ ghost use Rattle.tables.specs.Views.{fields_of};
 ghost use Rattle.chains.specs.Marks.{marked};
 
 use closure::{Edge, Reach};
+use std::array;
 use tables::tables::Tables;
 
 pub mod endings;
@@ -29,7 +30,7 @@ impl Chains {
         ensures chain { (t : ℕ) → marked result t ≡ is_chain (fields_of tables.now) t }
         ensures leads { (x y : ℕ) → told result.reach x y ≡ chain_leads (fields_of tables.now) (is_chain (fields_of tables.now)) x y }
     {
-        let mut marks = std::array::from_fn(|transition| tables.is_immediate(transition));
+        let mut marks = array::from_fn(|transition| tables.is_immediate(transition));
         let mut reach = reach_by(tables, &marks);
         for _turn in 0..8usize {
             let next = chain_marks(tables, &reach);
@@ -62,14 +63,14 @@ fn chain_marks(tables: &Tables, reach: &Reach) -> [bool; 512]
     ensures { (t : ℕ) → slice_index_or result t false ≡ is_chain_by (fields_of tables.now) (told reach.now) t }
 {
     let endings = Endings::of(tables, reach);
-    std::array::from_fn(|transition| endings.is_chain(transition))
+    array::from_fn(|transition| endings.is_chain(transition))
 }
 
 // What the marked transitions lead to.
 fn reach_by(tables: &Tables, marks: &[bool; 512]) -> Reach
     ensures { (x y : ℕ) → told result x y ≡ chain_leads (fields_of tables.now) (λ t. slice_index_or marks.now t false) x y }
 {
-    let edges: [Edge; 512] = std::array::from_fn(|transition| Edge {
+    let edges: [Edge; 512] = array::from_fn(|transition| Edge {
         source: tables.source_of(transition),
         target: tables.target_of(transition),
         marked: marks[transition],

@@ -19,8 +19,8 @@ returns-then-matches c =
     let n = c.graph_count.result in
     let p = lets_end fs (graph_may_end fs (told self.reach.now)) c.args.state in
     let each : c.all.result ≡ all_of (graphs fs) p =
-      is_all_of n p c.all.result (all_from_yields_List p _ _ c.all.result c.all.ensures.ran (YieldsList-from_range 0 n n (cc) (omega arith)) (λ x b q k. search (rules, tests)))
-      ∙ ap (λ n. all_of n p) c.graph_count.ensures in
+    is_all_of n p c.all.result (all_from_yields_List p _ _ c.all.result c.all.ensures.ran (YieldsList-from_range 0 n n (cc) (omega arith)) (λ x b q k. search (rules, tests)))
+    ∙ ap (λ n. all_of n p) c.graph_count.ensures in
     elim c.match-matches.branch [
       | in-Macro w ↦ each ∙ ap (λ k. is_macro k && all_of (graphs fs) p) w.in-Macro.ensures
       | in_default w ↦ absurd (clash c.if-matches.true w.matches-is)
