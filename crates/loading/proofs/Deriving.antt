@@ -1,5 +1,7 @@
 -- What is derived from a chart's tables, in terms of the chart.
-use Rattle.std.proofs.Common.{◌≡◌, ℕ, suc, Bool, true, false, cond, eqb, List, length, is_ok, Some, None, Ok, Option, refl, ap, arith}
+use Rattle.std.proofs.Common.{◌≡◌, ℕ, suc, ◌<◌, Bool, true, false, cond, eqb, List, length, is_ok, Some, None, Ok, Option, sym, refl, ap, ◌∙◌, ltb, lt-ltb, le-ltb, arith}
+use Rattle.std.specs.Option.{option_flatten}
+use native.Mathlib.Decide.{dec_lt}
 use Rattle.chart.specs.Reading.{row_of}
 use Rattle.validity.specs.Outcome.{outcome}
 use Rattle.loading.specs.Kept.{may_keep}
@@ -12,20 +14,9 @@ use Rattle.tables.specs.Rows.{trigger_span_at}
 use Rattle.tables.specs.Spans.{spanned_if}
 use Rattle.tables.proofs.Spanning.{trigger_spanned}
 use Rattle.derived.specs.Suspended.{suspension_span}
-use Rattle.loading.specs.Derives.{numbers_in}
 
 pub rank_is : (fs : List Field) (reach : ℕ → ℕ → Bool) → ((x y : ℕ) → reach x y ≡ chain_leads fs (is_chain fs) x y) → (s : ℕ) → count_of (states fs) (λ x. reach x s) ≡ rank (chart_of fs) s
 rank_is fs reach reaches s = ap (λ (l : ℕ → ℕ → Bool). count_of (states fs) (λ x. l x s)) (λ j x y. reaches x y j)
-
--- a span is told by its numbers
-pub same_numbers : (a b : Option Span) → numbers_in a ≡ numbers_in b → a ≡ b
-same_numbers None None h = refl
-same_numbers None (Some t) h = absurd (grind arith)
-same_numbers (Some s) None h = absurd (grind arith)
-same_numbers (Some s) (Some t) h =
-    let start : s.start ≡ t.start = grind arith in
-    let long : s.length ≡ t.length = grind arith in
-    λ j. Some (record { start = start j; length = long j })
 
 pub suspension_told : (b : List ℕ) (fs : List Field) → encode_all fs ≡ b → (s : ℕ) → spanned_if b (suspension_span fs s) ≡ suspension_of fs s
 suspension_told b fs bytes s = go (any_of (suspensions fs) (λ u. eqb (suspended_by fs u) s))
@@ -41,3 +32,17 @@ may_keep_lem b h = go (eqb (length b) 0)
     go : (t : Bool) → cond t true (is_ok (outcome (row_of b))) ≡ true
     go true = refl
     go false = ap is_ok h
+
+pub suspension_if : (b : List ℕ) (fs : List Field) → encode_all fs ≡ b → (s : ℕ) (span : Option Span) → (s < states fs → span ≡ suspension_span fs s)
+    → spanned_if b (option_flatten (cond (ltb s (states fs)) (Some span) None)) ≡ cond (ltb s (states fs)) (suspension_of fs s) None
+suspension_if b fs bytes s span here =
+    elim (dec_lt s (states fs)) [
+      | yes l ↦ ap (pick span) (lt-ltb s (states fs) l) ∙ ap (spanned_if b) (here l) ∙ suspension_told b fs bytes s ∙ ap meant (sym (lt-ltb s (states fs) l))
+      | no nl ↦ ap (pick span) (le-ltb s (states fs) (omega arith)) ∙ ap meant (sym (le-ltb s (states fs) (omega arith)))
+    ]
+  where
+    pick : Option Span → Bool → Option (List ℕ)
+    pick span t = spanned_if b (option_flatten (cond t (Some span) None))
+
+    meant : Bool → Option (List ℕ)
+    meant t = cond t (suspension_of fs s) None

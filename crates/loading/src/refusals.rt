@@ -1,5 +1,6 @@
 // Why a file is not loaded.
 ghost use Rattle.std.specs.Prelude.{◌≡◌};
+ghost use Rattle.loading.specs.declared.refusals.Refusal.TheVariants.{Malformed as by_format, Invalid as by_rules};
 ghost use Rattle.loading.specs.Numbers.{number_of, layer_of, place_of};
 
 use chart::refusals::Refusal as Malformed;
@@ -10,6 +11,22 @@ use validity::faults::Invalid;
 pub enum Refusal {
     Malformed(Malformed),
     Invalid(Invalid),
+}
+
+impl From<Malformed> for Refusal {
+    ghost from_gives = { λ malformed refusal. refusal ≡ by_format malformed };
+
+    fn from(malformed: Malformed) -> Refusal {
+        Refusal::Malformed(malformed)
+    }
+}
+
+impl From<Invalid> for Refusal {
+    ghost from_gives = { λ breach refusal. refusal ≡ by_rules breach };
+
+    fn from(breach: Invalid) -> Refusal {
+        Refusal::Invalid(breach)
+    }
 }
 
 impl Refusal {

@@ -32,6 +32,7 @@ impl Chart {
                 self.derived.fill(&self.tables, &chains);
                 Ok(())
             }
+            // No `?` here: what was read of a refused file is cleared first.
             Err(refusal) => {
                 self.tables.clear();
                 self.derived.clear();
@@ -45,11 +46,6 @@ impl Chart {
 fn judge(tables: &mut Tables, bytes: &[u8]) -> Result<Chains, Refusal>
     ensures { MatchResult result (λ c. (loading bytes.now ≡ Ok tt) × (tables.new.file.bytes.items ≡ bytes.now) × Judged (fields_of tables.new) c) (λ e. loading bytes.now ≡ Err e) }
 {
-    if let Err(refusal) = tables.read(bytes) {
-        return Err(Refusal::Malformed(refusal));
-    }
-    match check(tables) {
-        Ok(chains) => Ok(chains),
-        Err(invalid) => Err(Refusal::Invalid(invalid)),
-    }
+    tables.read(bytes)?;
+    Ok(check(tables)?)
 }

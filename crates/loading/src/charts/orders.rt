@@ -14,33 +14,21 @@ impl Chart {
     pub fn depth(&self, state: usize) -> Option<u16>
         ensures { result ≡ (if nat_lt state (meaning self.now).states then Some ((meaning self.now).depth state) else None) }
     {
-        if state < self.tables.state_count() {
-            Some(self.derived.depth(state))
-        } else {
-            None
-        }
+        (state < self.tables.state_count()).then(|| self.derived.depth(state))
     }
 
     /// From how many states chain transitions reach the state. Along a chain transition the rank rises.
     pub fn rank(&self, state: usize) -> Option<u16>
         ensures { result ≡ (if nat_lt state (meaning self.now).states then Some (rank (meaning self.now) state) else None) }
     {
-        if state < self.tables.state_count() {
-            Some(self.derived.rank(state))
-        } else {
-            None
-        }
+        (state < self.tables.state_count()).then(|| self.derived.rank(state))
     }
 
     /// The initial state of the graph.
     pub fn initial(&self, graph: usize) -> Option<u16>
         ensures { result ≡ (if nat_lt graph (meaning self.now).graphs then Some ((meaning self.now).initial graph) else None) }
     {
-        if graph < self.tables.graph_count() {
-            Some(self.derived.initial(graph))
-        } else {
-            None
-        }
+        (graph < self.tables.graph_count()).then(|| self.derived.initial(graph))
     }
 
     /// Whether the transition is a chain transition.
@@ -54,61 +42,44 @@ impl Chart {
     pub fn suspension(&self, state: usize) -> Option<Span>
         ensures { spanned_if (copy_in self.now) result ≡ (if nat_lt state (meaning self.now).states then (meaning self.now).suspension state else None) }
     {
-        if state < self.tables.state_count() {
-            self.suspension_within(state)
-        } else {
-            None
-        }
-    }
-
-    fn suspension_within(&self, state: usize) -> Option<Span>
-        requires { state < (meaning self.now).states }
-        ensures { spanned_if (copy_in self.now) result ≡ (meaning self.now).suspension state }
-    {
-        self.derived.suspension(state)
+        (state < self.tables.state_count())
+            .then(|| self.derived.suspension(state))
+            .flatten()
     }
 
     /// The transitions that leave the state, in file order: earlier ones go before later ones.
     pub fn transitions_from(&self, state: usize) -> &[u16]
         ensures { result.now ≡ (if nat_lt state (meaning self.now).states then those (meaning self.now).transitions (λ t. nat_eq ((meaning self.now).source t) state) else []) }
     {
-        if state < self.tables.state_count() {
-            self.derived.outgoing(state)
-        } else {
-            &[]
-        }
+        (state < self.tables.state_count())
+            .then(|| self.derived.outgoing(state))
+            .unwrap_or_default()
     }
 
     /// The transitions that lead to the state, in file order.
     pub fn transitions_to(&self, state: usize) -> &[u16]
         ensures { result.now ≡ (if nat_lt state (meaning self.now).states then those (meaning self.now).transitions (λ t. nat_eq ((meaning self.now).target t) state) else []) }
     {
-        if state < self.tables.state_count() {
-            self.derived.incoming(state)
-        } else {
-            &[]
-        }
+        (state < self.tables.state_count())
+            .then(|| self.derived.incoming(state))
+            .unwrap_or_default()
     }
 
     /// The states of the graph, the initial one first.
     pub fn states_in(&self, graph: usize) -> &[u16]
         ensures { result.now ≡ (if nat_lt graph (meaning self.now).graphs then those (meaning self.now).states (is_in (fields_for self.now) graph) else []) }
     {
-        if graph < self.tables.graph_count() {
-            self.derived.members(graph)
-        } else {
-            &[]
-        }
+        (graph < self.tables.graph_count())
+            .then(|| self.derived.members(graph))
+            .unwrap_or_default()
     }
 
     /// The graphs that the state owns.
     pub fn graphs_of(&self, state: usize) -> &[u16]
         ensures { result.now ≡ (if nat_lt state (meaning self.now).states then those (meaning self.now).graphs (λ g. nat_eq ((meaning self.now).owner g) state) else []) }
     {
-        if state < self.tables.state_count() {
-            self.derived.owned(state)
-        } else {
-            &[]
-        }
+        (state < self.tables.state_count())
+            .then(|| self.derived.owned(state))
+            .unwrap_or_default()
     }
 }
