@@ -1,5 +1,5 @@
 -- Numbers in groups by their keys.
-use Rattle.std.proofs.Common.{◌≡◌, ℕ, zero, suc, ◌<◌, Bool, true, cond, not, ◌&&◌, eqb, ltb, List, [], ◌∷◌, ◌++◌, length, get_or, Ok, Err, Result, refl, ap, ◌∙◌, ap₂, arith, lt-ltb, OnOk, is_ok}
+use Rattle.std.proofs.Common.{◌≡◌, ℕ, zero, suc, ◌<◌, Bool, cond, not, ◌&&◌, eqb, ltb, List, [], ◌∷◌, ◌++◌, length, get_or, Ok, Err, Result, refl, ap, ◌∙◌, ap₂, arith, lt-ltb, MatchResult}
 use Rattle.std.proofs.lemmas.Bool.Decides.{nat_tests}
 use Rattle.groups.specs.Numbers.{those, with_key}
 use Rattle.chart.specs.Fields.{Field}
@@ -15,10 +15,10 @@ with_key_lem f n keys e h k =
     ap (λ m. those m (λ i. eqb (get_or keys i 0) k)) e
     ∙ those_same n (λ i. eqb (get_or keys i 0) k) (λ i. eqb (f i) k) (λ i l. ap (λ x. eqb x k) (h i l))
 
--- what an answer says that is no error
-pub succeeded : {T E : Type 0} (r : Result T E) (P : Type 0) → is_ok r ≡ true → OnOk r P → P
-succeeded (Ok x) P s h = h
-succeeded (Err e) P s h = (cc)
+-- what an answer says that cannot be an error
+pub succeeded : {T E : Type 0} (r : Result T E) (P Q : Type 0) → (Q → ⊥) → MatchResult r (λ _. P) (λ _. Q) → P
+succeeded (Ok x) P Q never h = h
+succeeded (Err e) P Q never h = absurd (never h)
 
 pub below_size : (k size : ℕ) (xs : List ℕ) → k < size → cond (ltb k size) xs [] ≡ xs
 below_size k size xs l = ap (λ b. cond b xs []) (lt-ltb k size l)
