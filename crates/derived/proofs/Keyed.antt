@@ -1,5 +1,5 @@
 -- Numbers in groups by their keys.
-use Rattle.std.proofs.Common.{◌≡◌, ℕ, zero, suc, ◌<◌, Bool, cond, not, ◌&&◌, eqb, ltb, List, [], ◌∷◌, ◌++◌, length, get_or, Ok, Err, Result, refl, ap, ◌∙◌, ap₂, arith, lt-ltb, MatchResult}
+use Rattle.std.proofs.Common.{◌≡◌, ℕ, zero, suc, ◌<◌, Bool, cond, not, ◌&&◌, eqb, List, [], ◌∷◌, ◌++◌, length, get_or, Ok, Err, Result, refl, ap, ◌∙◌, ap₂, arith, MatchResult}
 use Rattle.std.proofs.lemmas.Bool.Decides.{nat_tests}
 use Rattle.groups.specs.Numbers.{those, with_key}
 use Rattle.chart.specs.Fields.{Field}
@@ -19,9 +19,6 @@ with_key_lem f n keys e h k =
 pub succeeded : {T E : Type 0} (r : Result T E) (P Q : Type 0) → (Q → ⊥) → MatchResult r (λ _. P) (λ _. Q) → P
 succeeded (Ok x) P Q never h = h
 succeeded (Err e) P Q never h = absurd (never h)
-
-pub below_size : (k size : ℕ) (xs : List ℕ) → k < size → cond (ltb k size) xs [] ≡ xs
-below_size k size xs l = ap (λ b. cond b xs []) (lt-ltb k size l)
 
 -- the root has the key of no graph
 pub placed : (fs : List Field) (g s : ℕ) → g < 65535 → eqb (cond (eqb s 0) 65535 (graph_of fs s)) g ≡ is_in fs g s

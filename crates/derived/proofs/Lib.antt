@@ -1,3 +1,3 @@
 mod Bounds
-mod Gathered
+mod Found
 mod Keyed

@@ -2,18 +2,23 @@
 use Rattle.std.specs.Prelude.{◌≡◌, ℕ, Bool, false, List, [], None, vec_items, Option, slice_index, slice_index_or}
 use Rattle.tables.specs.declared.rows.Span.{Span}
 use Rattle.groups.specs.Lookup.{group}
+use Rattle.derived.specs.declared.facts.StateFacts.{StateFacts}
 use Rattle.derived.specs.declared.Derived.{Derived}
+
+-- of a number that no state has
+abbrev pub no_facts : StateFacts
+no_facts = record { depth = 0; suspension = None; rank = 0 }
 
 module _ (d : Derived) where
   -- of a state: its depth, where the trigger of its suspension stands, from how many states chain transitions reach it
   abbrev pub depth_at : ℕ → ℕ
-  depth_at s = slice_index (vec_items d.depths) s
+  depth_at s = (slice_index_or (vec_items d.states) s no_facts).depth
 
   abbrev pub suspension_at : ℕ → Option Span
-  suspension_at s = slice_index_or (vec_items d.suspensions) s None
+  suspension_at s = (slice_index_or (vec_items d.states) s no_facts).suspension
 
   abbrev pub rank_at : ℕ → ℕ
-  rank_at s = slice_index (vec_items d.ranks) s
+  rank_at s = (slice_index_or (vec_items d.states) s no_facts).rank
 
   -- of a graph: its initial state
   abbrev pub initial_at : ℕ → ℕ

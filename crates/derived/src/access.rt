@@ -1,8 +1,9 @@
 // What was derived, by number. Of one that nothing has it tells 0, none, or nothing.
 ghost use Rattle.std.specs.Prelude.{◌≡◌, slice_index_or};
-ghost use Rattle.derived.specs.Columns.{depth_at, suspension_at, rank_at, initial_at, chain_at, outgoing_at, incoming_at, members_at, owned_at};
+ghost use Rattle.derived.specs.Columns.{depth_at, suspension_at, rank_at, initial_at, chain_at, outgoing_at, incoming_at, members_at, owned_at, no_facts};
 
 use crate::Derived;
+use crate::facts::StateFacts;
 use tables::rows::Span;
 
 impl Derived {
@@ -10,35 +11,35 @@ impl Derived {
     pub fn depth(&self, state: usize) -> u16
         ensures { result ≡ depth_at self.now state }
     {
-        value_or(&self.depths, state, 0)
+        self.state(state).depth
     }
 
     /// Where the trigger of the state's suspension stands.
     pub fn suspension(&self, state: usize) -> Option<Span>
         ensures { result ≡ suspension_at self.now state }
     {
-        value_or(&self.suspensions, state, None)
+        self.state(state).suspension
     }
 
     /// From how many states chain transitions reach the state.
     pub fn rank(&self, state: usize) -> u16
         ensures { result ≡ rank_at self.now state }
     {
-        value_or(&self.ranks, state, 0)
+        self.state(state).rank
     }
 
     /// The initial state of the graph.
     pub fn initial(&self, graph: usize) -> u16
         ensures { result ≡ initial_at self.now graph }
     {
-        value_or(&self.initials, graph, 0)
+        self.initials.get(graph).copied().unwrap_or(0)
     }
 
     /// Whether the transition is a chain transition.
     pub fn is_chain(&self, transition: usize) -> bool
         ensures { result ≡ chain_at self.now transition }
     {
-        value_or(&self.chain, transition, false)
+        self.chain.get(transition).copied().unwrap_or(false)
     }
 
     /// The transitions from the state, in file order.
@@ -68,13 +69,10 @@ impl Derived {
     {
         self.owned.of(state)
     }
-}
 
-fn value_or<V: Copy>(values: &[V], number: usize, otherwise: V) -> V
-    ensures { result ≡ slice_index_or values.now number otherwise }
-{
-    match values.get(number) {
-        Some(value) => *value,
-        None => otherwise,
+    fn state(&self, state: usize) -> StateFacts
+        ensures { result ≡ slice_index_or self.now.states.items state no_facts }
+    {
+        self.states.get(state).copied().unwrap_or_default()
     }
 }

@@ -11,9 +11,7 @@ ghost use Rattle.derived.specs.Suspended.{suspension_span};
 
 use crate::Derived;
 use crate::column::{fill_column, fill_groups};
-use crate::sources::{
-    Depths, Initials, Marks, Owners, Places, Ranks, Sources, Suspensions, Targets,
-};
+use crate::facts::{StateFacts, initial_of, place_of};
 use chains::Chains;
 use groups::Groups;
 use std::alloc::{AllocError, Global};
@@ -24,9 +22,7 @@ impl Derived {
     pub fn new(heap: Global) -> Result<Derived, AllocError>
         ensures { IfOk result Empty }
     {
-        let depths = Vec::with_capacity(heap, 256)?;
-        let suspensions = Vec::with_capacity(heap, 256)?;
-        let ranks = Vec::with_capacity(heap, 256)?;
+        let states = Vec::with_capacity(heap, 256)?;
         let initials = Vec::with_capacity(heap, 128)?;
         let chain = Vec::with_capacity(heap, 512)?;
         let outgoing = Groups::new(heap, 256, 512)?;
@@ -35,9 +31,7 @@ impl Derived {
         let owned = Groups::new(heap, 256, 128)?;
         let keys = Vec::with_capacity(heap, 512)?;
         Ok(Derived {
-            depths,
-            suspensions,
-            ranks,
+            states,
             initials,
             chain,
             outgoing,
@@ -52,9 +46,7 @@ impl Derived {
     pub fn clear(&mut self)
         ensures { Empty self.new }
     {
-        self.depths.clear();
-        self.suspensions.clear();
-        self.ranks.clear();
+        self.states.clear();
         self.initials.clear();
         self.chain.clear();
         self.outgoing.clear();
@@ -79,38 +71,23 @@ impl Derived {
         let states = tables.state_count();
         let graphs = tables.graph_count();
         let transitions = tables.transition_count();
-        fill_column(Depths { tables }, states, &mut self.depths);
-        fill_column(Suspensions { tables }, states, &mut self.suspensions);
-        fill_column(Ranks { tables, chains }, states, &mut self.ranks);
-        fill_column(Initials { tables }, graphs, &mut self.initials);
-        fill_column(Marks { chains }, transitions, &mut self.chain);
-        fill_groups(
-            Sources { tables },
-            transitions,
-            states,
-            &mut self.keys,
-            &mut self.outgoing,
-        );
-        fill_groups(
-            Targets { tables },
-            transitions,
-            states,
-            &mut self.keys,
-            &mut self.incoming,
-        );
-        fill_groups(
-            Places { tables },
-            states,
-            graphs,
-            &mut self.keys,
-            &mut self.members,
-        );
-        fill_groups(
-            Owners { tables },
-            graphs,
-            states,
-            &mut self.keys,
-            &mut self.owned,
-        );
+        fill_column(&mut self.states, states, |s| {
+            StateFacts::of(tables, chains, s)
+        });
+        fill_column(&mut self.initials, graphs, |g| initial_of(tables, g));
+        fill_column(&mut self.chain, transitions, |t| chains.is_chain(t));
+        let keys = &mut self.keys;
+        fill_groups(&mut self.outgoing, keys, transitions, states, |t| {
+            tables.source_of(t)
+        });
+        fill_groups(&mut self.incoming, keys, transitions, states, |t| {
+            tables.target_of(t)
+        });
+        fill_groups(&mut self.members, keys, states, graphs, |s| {
+            place_of(tables, s)
+        });
+        fill_groups(&mut self.owned, keys, graphs, states, |g| {
+            tables.owner_of(g)
+        });
     }
 }

@@ -1,25 +1,15 @@
-use Rattle.std.proofs.Common.{◌≡◌, ℕ, ◌<◌, cond, ltb, [], length, get_or, ap, ◌∙◌, arith}
+use Rattle.std.proofs.Common.{◌≡◌, ℕ, ◌<◌, cond, ltb, [], length, get_or, vec_items, ap, ◌∙◌, arith, lt-ltb}
 use Rattle.groups.specs.Lookup.{group}
 use Rattle.groups.specs.Numbers.{with_key}
-use Rattle.derived.proofs.Keyed.{with_key_lem, succeeded, below_size}
+use Rattle.derived.proofs.Keyed.{with_key_lem, succeeded}
 use Rattle.derived.proofs.column.fill_groups.Goals as goal
 
-pub returns : goal.returns
-returns g c =
-    let f = g.C.Column.value c.args.source in
+pub returns-clause-told : goal.returns-clause-told
+returns-clause-told g c f h k l =
+    let keys = c.deref.result.now in
     let n = c.args.count in
     let size = c.args.size in
-    let keys = c.deref.result.now in
-    let groups = c.fill.new.self in
-    let e = c.fill.ensures in
     let long : length keys ≡ n = omega (arith, c.deref.ensures.len, c.fill_column.ensures.counted) in
-    let key : (i : ℕ) → i < n → get_or keys i 0 ≡ f i = λ i l. ap (λ xs. get_or xs i 0) c.deref.ensures.value ∙ c.fill_column.ensures.told i 0 l in
-    let filled : (length keys < 65536) × ((k : ℕ) → group groups k ≡ cond (ltb k size) (with_key keys k) []) =
-    succeeded c.fill.result ((length keys < 65536) × ((k : ℕ) → group groups k ≡ cond (ltb k size) (with_key keys k) [])) _
-    (λ q. q.1 (omega (arith, c.requires), omega (arith, c.requires)) (omega (arith, c.requires))) e.groups
-    in
-    record {
-      told = λ k l. filled.1 k ∙ below_size k size (with_key keys k) l ∙ with_key_lem f n keys long key k;
-      key_room = c.fill_column.ensures.room;
-      room = e.room;
-    }
+    let key : (i : ℕ) → i < n → get_or keys i 0 ≡ f i = λ i m. ap (λ xs. get_or xs i 0) c.deref.ensures.value ∙ h i (get_or (vec_items c.fill_column.new.values) i 0) m (c.fill_column.ensures.told i 0 m) in
+    let filled : (length keys < 65536) × ((k : ℕ) → group c.fill.new.self k ≡ cond (ltb k size) (with_key keys k) []) = succeeded c.fill.result _ _ (λ q. q.1 (omega (arith, c.requires.room), omega (arith, c.requires.room)) (omega (arith, c.requires.room))) c.fill.ensures.groups in
+    filled.1 k ∙ ap (λ b. cond b (with_key keys k) []) (lt-ltb k size l) ∙ with_key_lem f n keys long key k
