@@ -16,9 +16,9 @@ with_key_lem f n keys e h k =
     ∙ those_same n (λ i. eqb (get_or keys i 0) k) (λ i. eqb (f i) k) (λ i l. ap (λ x. eqb x k) (h i l))
 
 -- what an answer says that cannot be an error
-pub succeeded : {T E : Type 0} (r : Result T E) (P Q : Type 0) → (Q → ⊥) → MatchResult r (λ _. P) (λ _. Q) → P
+pub succeeded : {T E : Type 0} (r : Result T E) (P : Type 0) (Q : E → Type 0) → ((e : E) → Q e → ⊥) → MatchResult r (λ _. P) Q → P
 succeeded (Ok x) P Q never h = h
-succeeded (Err e) P Q never h = absurd (never h)
+succeeded (Err e) P Q never h = absurd (never e h)
 
 -- the root has the key of no graph
 pub placed : (fs : List Field) (g s : ℕ) → g < 65535 → eqb (cond (eqb s 0) 65535 (graph_of fs s)) g ≡ is_in fs g s
