@@ -10,15 +10,19 @@ abbrev pub no_facts : StateFacts
 no_facts = record { depth = 0; suspension = None; rank = 0 }
 
 module _ (d : Derived) where
+  -- of a state
+  abbrev pub facts_at : ℕ → StateFacts
+  facts_at s = slice_index_or (vec_items d.states) s no_facts
+
   -- of a state: its depth, where the trigger of its suspension stands, from how many states chain transitions reach it
   abbrev pub depth_at : ℕ → ℕ
-  depth_at s = (slice_index_or (vec_items d.states) s no_facts).depth
+  depth_at s = (facts_at s).depth
 
   abbrev pub suspension_at : ℕ → Option Span
-  suspension_at s = (slice_index_or (vec_items d.states) s no_facts).suspension
+  suspension_at s = (facts_at s).suspension
 
   abbrev pub rank_at : ℕ → ℕ
-  rank_at s = (slice_index_or (vec_items d.states) s no_facts).rank
+  rank_at s = (facts_at s).rank
 
   -- of a graph: its initial state
   abbrev pub initial_at : ℕ → ℕ

@@ -1,6 +1,6 @@
 // What was derived, by number. Of one that nothing has it tells 0, none, or nothing.
-ghost use Rattle.std.specs.Prelude.{◌≡◌, slice_index_or};
-ghost use Rattle.derived.specs.Columns.{depth_at, suspension_at, rank_at, initial_at, chain_at, outgoing_at, incoming_at, members_at, owned_at, no_facts};
+ghost use Rattle.std.specs.Prelude.{◌≡◌};
+ghost use Rattle.derived.specs.Columns.{facts_at, depth_at, suspension_at, rank_at, initial_at, chain_at, outgoing_at, incoming_at, members_at, owned_at};
 
 use crate::Derived;
 use crate::facts::StateFacts;
@@ -71,7 +71,7 @@ impl Derived {
     }
 
     fn state(&self, state: usize) -> StateFacts
-        ensures { result ≡ slice_index_or self.now.states.items state no_facts }
+        ensures { result ≡ facts_at self.now state }
     {
         self.states.get(state).copied().unwrap_or_default()
     }
