@@ -1,5 +1,5 @@
 -- Numbers in groups by their keys.
-use Rattle.std.proofs.Common.{◌≡◌, ℕ, zero, suc, ◌<◌, Bool, cond, not, ◌&&◌, eqb, List, [], ◌∷◌, ◌++◌, length, get_or, Ok, Err, Result, refl, ap, ◌∙◌, ap₂, arith, MatchResult}
+use Rattle.std.proofs.Common.{◌≡◌, ℕ, zero, suc, ◌<◌, Bool, true, cond, not, ◌&&◌, eqb, List, [], ◌∷◌, ◌++◌, length, get_or, Ok, Err, Result, refl, ap, ◌∙◌, ap₂, arith, OnOk, is_ok}
 use Rattle.std.proofs.lemmas.Bool.Decides.{nat_tests}
 use Rattle.groups.specs.Numbers.{those, with_key}
 use Rattle.chart.specs.Fields.{Field}
@@ -15,10 +15,10 @@ with_key_lem f n keys e h k =
     ap (λ m. those m (λ i. eqb (get_or keys i 0) k)) e
     ∙ those_same n (λ i. eqb (get_or keys i 0) k) (λ i. eqb (f i) k) (λ i l. ap (λ x. eqb x k) (h i l))
 
--- what an answer says that cannot be an error
-pub succeeded : {T E : Type 0} (r : Result T E) (P : Type 0) (Q : E → Type 0) → ((e : E) → Q e → ⊥) → MatchResult r (λ _. P) Q → P
-succeeded (Ok x) P Q never h = h
-succeeded (Err e) P Q never h = absurd (never e h)
+-- what an answer says that is no error
+pub succeeded : {T E : Type 0} (r : Result T E) (P : Type 0) → is_ok r ≡ true → OnOk r P → P
+succeeded (Ok x) P s h = h
+succeeded (Err e) P s h = (cc)
 
 -- the root has the key of no graph
 pub placed : (fs : List Field) (g s : ℕ) → g < 65535 → eqb (cond (eqb s 0) 65535 (graph_of fs s)) g ≡ is_in fs g s

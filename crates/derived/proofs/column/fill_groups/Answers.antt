@@ -11,5 +11,5 @@ returns-clause-told g c f h k l =
     let size = c.args.size in
     let long : length keys ≡ n = omega (arith, c.deref.ensures.len, c.fill_column.ensures.counted) in
     let key : (i : ℕ) → i < n → get_or keys i 0 ≡ f i = λ i m. ap (λ xs. get_or xs i 0) c.deref.ensures.value ∙ h i (get_or (vec_items c.fill_column.new.values) i 0) m (c.fill_column.ensures.told i 0 m) in
-    let filled : (length keys < 65536) × ((k : ℕ) → group c.fill.new.self k ≡ cond (ltb k size) (with_key keys k) []) = succeeded c.fill.result _ (λ _. _) (λ e q. q.1 (omega (arith, c.requires.room), omega (arith, c.requires.room)) (omega (arith, c.requires.room))) c.fill.ensures.groups in
-    filled.1 k ∙ ap (λ b. cond b (with_key keys k) []) (lt-ltb k size l) ∙ with_key_lem f n keys long key k
+    let filled : (i : ℕ) → group c.fill.new.self i ≡ cond (ltb i size) (with_key keys i) [] = succeeded c.fill.result _ (c.fill.ensures.succeeds (omega (arith, c.requires.room), omega (arith, c.requires.room)) (omega (arith, c.requires.room))) c.fill.ensures.ok in
+    filled k ∙ ap (λ b. cond b (with_key keys k) []) (lt-ltb k size l) ∙ with_key_lem f n keys long key k
