@@ -1,6 +1,5 @@
 mod Deciding
-mod Each
 mod Followed
 mod Levels
 mod Postfix
-mod Tried
+mod Searches

@@ -6,26 +6,21 @@ ghost use Rattle.validity.specs.Faults.{can_end};
 ghost use Rattle.tables.specs.Views.{fields_of};
 ghost use Rattle.rules.specs.Ending.{is_final_in, has_final, lets_end};
 
-use crate::kinds::{is_final, is_macro};
+use chart::kinds::StateKind;
 use tables::tables::Tables;
 
 // Whether the state is a final one of the graph.
 fn is_final_in(tables: &Tables, graph: usize, state: usize) -> bool
     ensures { result ≡ is_final_in (fields_of tables.now) graph state }
 {
-    tables.is_in(graph, state) && is_final(tables.kind_of(state))
+    tables.is_in(graph, state) && matches!(tables.kind_of(state), StateKind::Final)
 }
 
 // Whether a final state stands in the graph.
 fn has_final(tables: &Tables, graph: usize) -> bool
     ensures { result ≡ has_final (fields_of tables.now) graph }
 {
-    for state in 0..tables.state_count() {
-        if is_final_in(tables, graph, state) {
-            return true;
-        }
-    }
-    false
+    (0..tables.state_count()).any(|state| is_final_in(tables, graph, state))
 }
 
 // Whether the graph lets the state end: another state owns it, or it has a final state.
@@ -39,17 +34,12 @@ fn lets_end(tables: &Tables, state: u16, graph: usize) -> bool
 fn all_let_end(tables: &Tables, state: u16) -> bool
     ensures { result ≡ all_of (graphs (fields_of tables.now)) (lets_end (fields_of tables.now) state) }
 {
-    for graph in 0..tables.graph_count() {
-        if !lets_end(tables, state, graph) {
-            return false;
-        }
-    }
-    true
+    (0..tables.graph_count()).all(|graph| lets_end(tables, state, graph))
 }
 
 /// Whether the state is a macrostate with a final state in every graph. Of a graph that another state owns no state is looked at.
 pub(crate) fn can_end(tables: &Tables, state: u16) -> bool
     ensures { result ≡ can_end (fields_of tables.now) state }
 {
-    is_macro(tables.kind_of(state as usize)) && all_let_end(tables, state)
+    matches!(tables.kind_of(state as usize), StateKind::Macro) && all_let_end(tables, state)
 }

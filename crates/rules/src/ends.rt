@@ -1,18 +1,15 @@
 // The ends of transitions, which stand in one graph, and their order: from a state that is not final, strong ones stand first, then weak ones, then one normal.
 // Over a file this costs transitions times transitions.
 ghost use Rattle.std.specs.Prelude.{◌≡◌};
-ghost use Rattle.chart.specs.Stated.{stated};
-ghost use Rattle.validity.specs.Parts.{at};
 ghost use Rattle.validity.specs.Faults.{first_case, in_one_graph, stands_behind, transition_ends, ends_fault};
-ghost use Rattle.tables.specs.Entries.{entry_at};
 ghost use Rattle.tables.specs.Views.{fields_of};
 ghost use Rattle.rules.specs.Order.{is_from, leaves_by, order_cases};
 
-use crate::cases::when;
-use crate::kinds::{is_final, is_from};
+use crate::kinds::is_from;
+use crate::rule::Rule;
+use crate::site::Site;
 use chart::fields::Field;
-use chart::kinds::TransitionKind;
-use tables::rows::Entry;
+use chart::kinds::{StateKind, TransitionKind};
 use tables::tables::Tables;
 use validity::faults::Fault;
 
@@ -41,12 +38,7 @@ pub(crate) fn stands_behind(
 ) -> bool
     ensures { result ≡ stands_behind (fields_of tables.now) transition source (is_from first) }
 {
-    for other in 0..transition {
-        if leaves(tables, other, source, first) {
-            return true;
-        }
-    }
-    false
+    (0..transition).any(|other| leaves(tables, other, source, first))
 }
 
 // How the transition stands out of the order of those from its source, if it does.
@@ -58,20 +50,12 @@ fn order_fault(
 ) -> Option<Fault>
     ensures { result ≡ first_case (order_cases (fields_of tables.now) transition source kind) }
 {
-    match kind {
-        TransitionKind::Strong => when(
-            stands_behind(tables, transition, source, TransitionKind::Weak),
-            Fault::StrongAfterWeaker,
-        ),
-        TransitionKind::Weak => when(
-            stands_behind(tables, transition, source, TransitionKind::Normal),
-            Fault::WeakAfterNormal,
-        ),
-        TransitionKind::Normal => when(
-            stands_behind(tables, transition, source, TransitionKind::Normal),
-            Fault::SecondNormal,
-        ),
-    }
+    let (first, fault) = match kind {
+        TransitionKind::Strong => (TransitionKind::Weak, Fault::StrongAfterWeaker),
+        TransitionKind::Weak => (TransitionKind::Normal, Fault::WeakAfterNormal),
+        TransitionKind::Normal => (TransitionKind::Normal, Fault::SecondNormal),
+    };
+    stands_behind(tables, transition, source, first).then_some(fault)
 }
 
 // Of the transition.
@@ -86,25 +70,35 @@ fn transition_fault(
 {
     if !in_one_graph(tables, source, target) {
         Some(Fault::AcrossGraphs)
-    } else if is_final(tables.kind_of(source as usize)) {
+    } else if matches!(tables.kind_of(source as usize), StateKind::Final) {
         Some(Fault::FromFinal)
     } else {
         order_fault(tables, transition, source, kind)
     }
 }
 
-/// How the field at `index` breaks the rule, if it does.
-pub(crate) fn fault(tables: &Tables, index: usize, entry: Entry, field: Field<'_>) -> Option<Fault>
-    requires { (entry ≡ entry_at (fields_of tables.now) index) × (stated field ≡ at (fields_of tables.now) index) }
-    ensures { result ≡ ends_fault (fields_of tables.now) index }
-{
-    match field {
-        Field::Transition {
-            source,
-            target,
-            kind,
-            ..
-        } => transition_fault(tables, entry.transitions as usize, source, target, kind),
-        _ => None,
+/// The rule on the ends of transitions and their order.
+#[derive(Clone, Copy)]
+pub(crate) struct Ends;
+
+impl Rule for Ends {
+    ghost breaks = { λ _. ends_fault };
+
+    fn fault(&self, site: &Site<'_>) -> Option<Fault> {
+        match site.field {
+            Field::Transition {
+                source,
+                target,
+                kind,
+                ..
+            } => transition_fault(
+                site.tables,
+                site.entry.transitions as usize,
+                source,
+                target,
+                kind,
+            ),
+            _ => None,
+        }
     }
 }

@@ -2,7 +2,6 @@
 #![tactic(auto)]
 
 pub mod all;
-mod cases;
 pub mod depth;
 mod ending;
 mod ends;
@@ -12,4 +11,5 @@ mod nesting;
 mod references;
 mod rings;
 mod rule;
+mod site;
 mod triggers;

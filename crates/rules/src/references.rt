@@ -1,14 +1,12 @@
 // The rule on references: each number names what it must.
 ghost use Rattle.std.specs.Prelude.{◌≡◌, not, if◌then◌else◌, ◌==◌, nat_eq, nat_lt};
-ghost use Rattle.chart.specs.Stated.{stated};
 ghost use Rattle.chart.specs.WellFormed.{every};
-ghost use Rattle.validity.specs.Parts.{at};
 ghost use Rattle.validity.specs.Faults.{first_case, unknown_state, is_signal_number, is_no_input, reference_fault};
-ghost use Rattle.tables.specs.Entries.{entry_at};
 ghost use Rattle.tables.specs.Views.{fields_of};
 ghost use Rattle.rules.specs.Naming.{transition_naming, effects_naming};
 
-use crate::cases::when;
+use crate::rule::Rule;
+use crate::site::Site;
 use chart::fields::Field;
 use tables::rows::Entry;
 use tables::tables::Tables;
@@ -44,24 +42,16 @@ fn is_signal(tables: &Tables, number: u8) -> bool
 fn are_signals(tables: &Tables, numbers: &[u8]) -> bool
     ensures { result ≡ every (is_signal_number (fields_of tables.now)) numbers.now }
 {
-    for number in numbers {
-        if !is_signal(tables, *number) {
-            return false;
-        }
-    }
-    true
+    numbers.iter().all(|number| is_signal(tables, *number))
 }
 
 // Whether none of the signals is an input.
 fn are_no_inputs(tables: &Tables, signals: &[u8]) -> bool
     ensures { result ≡ every (is_no_input (fields_of tables.now)) signals.now }
 {
-    for signal in signals {
-        if tables.is_input(*signal as usize) {
-            return false;
-        }
-    }
-    true
+    signals
+        .iter()
+        .all(|signal| !tables.is_input(*signal as usize))
 }
 
 fn transition_fault(tables: &Tables, source: u16, target: u16) -> Option<Fault>
@@ -70,7 +60,7 @@ fn transition_fault(tables: &Tables, source: u16, target: u16) -> Option<Fault>
     if is_unknown_state(tables, source) {
         Some(Fault::UnknownSource)
     } else {
-        when(is_unknown_state(tables, target), Fault::UnknownTarget)
+        is_unknown_state(tables, target).then_some(Fault::UnknownTarget)
     }
 }
 
@@ -80,24 +70,30 @@ fn effects_fault(tables: &Tables, signals: &[u8]) -> Option<Fault>
     if !are_signals(tables, signals) {
         Some(Fault::UnknownEffect)
     } else {
-        when(!are_no_inputs(tables, signals), Fault::InputEffect)
+        (!are_no_inputs(tables, signals)).then_some(Fault::InputEffect)
     }
 }
 
-/// How the field at `index` breaks the rule, if it does.
-pub(crate) fn fault(tables: &Tables, index: usize, entry: Entry, field: Field<'_>) -> Option<Fault>
-    requires { (entry ≡ entry_at (fields_of tables.now) index) × (stated field ≡ at (fields_of tables.now) index) }
-    ensures { result ≡ reference_fault (fields_of tables.now) index }
-{
-    match field {
-        Field::State { graph, .. } => when(is_unknown_graph(entry, graph), Fault::UnknownGraph),
-        Field::Graph { owner } => when(owner >= entry.states, Fault::UnknownOwner),
-        Field::Transition { source, target, .. } => transition_fault(tables, source, target),
-        Field::Suspension { state } => when(
-            is_unknown_state(tables, state),
-            Fault::UnknownSuspended,
-        ),
-        Field::Effects { signals } => effects_fault(tables, signals),
-        Field::Signal { .. } | Field::Trigger { .. } => None,
+/// The rule on references.
+#[derive(Clone, Copy)]
+pub(crate) struct References;
+
+impl Rule for References {
+    ghost breaks = { λ _. reference_fault };
+
+    fn fault(&self, site: &Site<'_>) -> Option<Fault> {
+        let tables = site.tables;
+        match site.field {
+            Field::State { graph, .. } => {
+                is_unknown_graph(site.entry, graph).then_some(Fault::UnknownGraph)
+            }
+            Field::Graph { owner } => (owner >= site.entry.states).then_some(Fault::UnknownOwner),
+            Field::Transition { source, target, .. } => transition_fault(tables, source, target),
+            Field::Suspension { state } => {
+                is_unknown_state(tables, state).then_some(Fault::UnknownSuspended)
+            }
+            Field::Effects { signals } => effects_fault(tables, signals),
+            Field::Signal { .. } | Field::Trigger { .. } => None,
+        }
     }
 }

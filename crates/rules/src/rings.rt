@@ -1,13 +1,26 @@
 // The rule on rings: chain transitions lead from no state back to it.
-ghost use Rattle.std.specs.Prelude.{◌≡◌, ◌&&◌, ◌||◌, ◌==◌};
 ghost use Rattle.closure.specs.Rows.{told};
 ghost use Rattle.chains.specs.Marks.{marked};
+ghost use Rattle.rules.specs.Ringed.{ring_by};
 
+use crate::rule::Rule;
+use crate::site::Site;
 use chains::Chains;
+use chart::fields::Field;
+use validity::faults::Fault;
 
-// Whether the transition is on a ring of chain transitions.
-pub(crate) fn is_on_ring(chains: &Chains, transition: usize, source: usize, target: usize) -> bool
-    ensures { result ≡ (marked chains.now transition && (target == source || told chains.now.reach target source)) }
-{
-    chains.is_chain(transition) && (target == source || chains.leads(target, source))
+// The chain transitions must be on no ring.
+impl Rule for Chains {
+    ghost breaks = { λ c fs. ring_by fs (marked c) (told c.reach) };
+
+    fn fault(&self, site: &Site<'_>) -> Option<Fault> {
+        match site.field {
+            Field::Transition { source, target, .. } => {
+                let is_on_ring = self.is_chain(site.entry.transitions as usize)
+                    && (target == source || self.leads(target as usize, source as usize));
+                is_on_ring.then_some(Fault::OnRing)
+            }
+            _ => None,
+        }
+    }
 }

@@ -1,15 +1,12 @@
 // The rule on triggers: in postfix, each byte a signal or an operator, at most eight values stacked and one in the end.
-ghost use Rattle.std.specs.Prelude.{◌≡◌, pred, if◌then◌else◌, Some, None, nat_eq};
-ghost use Rattle.chart.specs.Stated.{stated};
-ghost use Rattle.validity.specs.Parts.{at};
+ghost use Rattle.std.specs.Prelude.{◌≡◌, ◌+◌, ◌-◌, if◌then◌else◌, Some, None, nat_eq};
 ghost use Rattle.validity.specs.Triggers.{pushed, operated, stacked as stacked_by, postfix_fault};
 ghost use Rattle.validity.specs.Faults.{trigger_fault};
 ghost use Rattle.tables.specs.Views.{fields_of};
 
-use crate::cases::when;
+use crate::rule::Rule;
+use crate::site::Site;
 use chart::fields::Field;
-use tables::rows::Entry;
-use tables::tables::Tables;
 use validity::faults::Fault;
 
 const LAST_SIGNAL: u8 = 127;
@@ -36,25 +33,14 @@ fn push(values: usize) -> Result<usize, Fault>
     }
 }
 
-// An operator that needs two values and leaves one.
-fn join(values: usize) -> Result<usize, Fault>
-    ensures { result ≡ operated 2 values (pred values) }
+// An operator that leaves so many values fewer. It needs one more than that.
+fn operate(values: usize, fewer: usize) -> Result<usize, Fault>
+    ensures { result ≡ operated (fewer + 1) values (values - fewer) }
 {
-    if values < 2 {
-        Err(Fault::MissingOperand)
+    if values > fewer {
+        Ok(values - fewer)
     } else {
-        Ok(values - 1)
-    }
-}
-
-// An operator that needs one value and leaves one.
-fn negate(values: usize) -> Result<usize, Fault>
-    ensures { result ≡ operated 1 values values }
-{
-    if values < 1 {
         Err(Fault::MissingOperand)
-    } else {
-        Ok(values)
     }
 }
 
@@ -70,8 +56,8 @@ fn stacked(signals: usize, byte: u8, values: usize) -> Result<usize, Fault>
                 Err(Fault::UnknownOperator)
             }
         }
-        AND | OR => join(values),
-        NOT => negate(values),
+        AND | OR => operate(values, 1),
+        NOT => operate(values, 0),
         YES => push(values),
         _ => Err(Fault::UnknownOperator),
     }
@@ -81,30 +67,33 @@ fn stacked(signals: usize, byte: u8, values: usize) -> Result<usize, Fault>
 fn end_fault(values: usize) -> Option<Fault>
     ensures { result ≡ (if nat_eq values 1 then None else Some Fault.NotOneValue) }
 {
-    when(values != 1, Fault::NotOneValue)
+    (values != 1).then_some(Fault::NotOneValue)
 }
 
 // What is wrong with a trigger in postfix, of a chart with so many signals.
 fn postfix_fault(signals: usize, postfix: &[u8]) -> Option<Fault>
     ensures { result ≡ postfix_fault signals postfix.now 0 }
 {
-    let mut values = 0;
-    for byte in postfix {
-        match stacked(signals, *byte, values) {
-            Ok(left) => values = left,
-            Err(fault) => return Some(fault),
-        }
+    match postfix
+        .iter()
+        .try_fold(0, |values, byte| stacked(signals, *byte, values))
+    {
+        Ok(values) => end_fault(values),
+        Err(fault) => Some(fault),
     }
-    end_fault(values)
 }
 
-/// How the field at `index` breaks the rule, if it does.
-pub(crate) fn fault(tables: &Tables, index: usize, _entry: Entry, field: Field<'_>) -> Option<Fault>
-    requires { stated field ≡ at (fields_of tables.now) index }
-    ensures { result ≡ trigger_fault (fields_of tables.now) index }
-{
-    match field {
-        Field::Trigger { postfix } => postfix_fault(tables.signal_count(), postfix),
-        _ => None,
+/// The rule on triggers.
+#[derive(Clone, Copy)]
+pub(crate) struct Triggers;
+
+impl Rule for Triggers {
+    ghost breaks = { λ _. trigger_fault };
+
+    fn fault(&self, site: &Site<'_>) -> Option<Fault> {
+        match site.field {
+            Field::Trigger { postfix } => postfix_fault(site.tables.signal_count(), postfix),
+            _ => None,
+        }
     }
 }

@@ -7,7 +7,8 @@ use Rattle.rules.proofs.leaving.is_triggered.Goals as goal
 
 pub returns : goal.returns
 returns c =
+    let s = c.args.site.now in
     c.is_trigger.ensures
     ∙ ap is_trigger_if c.field.ensures
-    ∙ ap (λ f. is_trigger_if (lookup (fields_in f) (c.args.index + 1))) c.file.ensures
-    ∙ followed (fields_of c.args.tables.now) c.args.index
+    ∙ ap (λ f. is_trigger_if (lookup (fields_in f) (s.index + 1))) c.file.ensures
+    ∙ followed (fields_of s.tables.now) s.index
