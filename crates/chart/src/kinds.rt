@@ -28,7 +28,8 @@ pub enum StateKind {
     Macro,
 }
 
-#[derive(Clone, Copy, PartialEq, Eq)]
+/// In the order in which the transitions of a state stand.
+#[derive(Clone, Copy, PartialEq, Eq, PartialOrd, Ord)]
 pub enum TransitionKind {
     Strong,
     Weak,
