@@ -5,7 +5,6 @@ ghost use Rattle.validity.specs.Faults.{first_case, in_one_graph, stands_behind,
 ghost use Rattle.tables.specs.Views.{fields_of};
 ghost use Rattle.rules.specs.Order.{is_from, leaves_by, order_cases};
 
-use crate::kinds::is_from;
 use crate::rule::Rule;
 use crate::site::Site;
 use chart::fields::Field;
@@ -26,7 +25,7 @@ fn in_one_graph(tables: &Tables, source: u16, target: u16) -> bool
 fn leaves(tables: &Tables, transition: usize, source: u16, first: TransitionKind) -> bool
     ensures { result ≡ leaves_by (fields_of tables.now) source first transition }
 {
-    tables.source_of(transition) == source && is_from(first, tables.transition_kind_of(transition))
+    tables.source_of(transition) == source && tables.transition_kind_of(transition) >= first
 }
 
 /// Whether of the transitions from the source in front of this one, one is of the kind `first` or of one behind it.

@@ -5,7 +5,6 @@ pub mod all;
 pub mod depth;
 mod ending;
 mod ends;
-mod kinds;
 mod leaving;
 mod nesting;
 mod references;

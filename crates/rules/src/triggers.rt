@@ -7,17 +7,8 @@ ghost use Rattle.tables.specs.Views.{fields_of};
 use crate::rule::Rule;
 use crate::site::Site;
 use chart::fields::Field;
+use chart::postfix::Symbol;
 use validity::faults::Fault;
-
-const LAST_SIGNAL: u8 = 127;
-
-const AND: u8 = 128;
-
-const OR: u8 = 129;
-
-const NOT: u8 = 130;
-
-const YES: u8 = 131;
 
 // No more values are stacked at once.
 const MOST_VALUES: usize = 8;
@@ -33,7 +24,7 @@ fn push(values: usize) -> Result<usize, Fault>
     }
 }
 
-// An operator that leaves so many values fewer. It needs one more than that.
+// An operator with one operand more than `fewer`. It leaves one value in place of them.
 fn operate(values: usize, fewer: usize) -> Result<usize, Fault>
     ensures { result ≡ operated (fewer + 1) values (values - fewer) }
 {
@@ -48,18 +39,12 @@ fn operate(values: usize, fewer: usize) -> Result<usize, Fault>
 fn stacked(signals: usize, byte: u8, values: usize) -> Result<usize, Fault>
     ensures { result ≡ stacked_by signals byte values }
 {
-    match byte {
-        0..=LAST_SIGNAL => {
-            if (byte as usize) < signals {
-                push(values)
-            } else {
-                Err(Fault::UnknownOperator)
-            }
-        }
-        AND | OR => operate(values, 1),
-        NOT => operate(values, 0),
-        YES => push(values),
-        _ => Err(Fault::UnknownOperator),
+    match Symbol::try_from(byte) {
+        Ok(Symbol::Signal(number)) if (number as usize) < signals => push(values),
+        Ok(Symbol::And | Symbol::Or) => operate(values, 1),
+        Ok(Symbol::Not) => operate(values, 0),
+        Ok(Symbol::Yes) => push(values),
+        Ok(Symbol::Signal(_)) | Err(_) => Err(Fault::UnknownOperator),
     }
 }
 
