@@ -1,42 +1,50 @@
--- The levels around a state, counted one by one.
-use Rattle.std.proofs.Common.{◌≡◌, ℕ, zero, suc, ◌+◌, ◌-◌, ◌<◌, ◌≤◌, cond, List, sym, refl, ap, ◌∙◌, arith, ne_eqb}
+-- The levels around a state, counted from the state outwards.
+use Rattle.std.proofs.Common.{◌≡◌, ℕ, zero, suc, ◌+◌, ◌<◌, Bool, true, false, cond, eqb, List, [], ◌∷◌, length, Some, None, Option, sym, refl, ap, ◌∙◌, subst, arith}
+use Rattle.std.specs.declared.iter.Successors.{Successors}
+use Rattle.std.specs.declared.iter.Take.{Take}
+use Rattle.std.specs.Fn.{CalledAt}
+use Rattle.std.specs.Iterator.{Yields, Drains}
+use Rattle.std.specs.Iterator.Adapters.{successors_next, successors_callee, successors_steps, take_source, take_count, take_steps}
+use denote.Param.Members.{Mut}
+use denote.Ref.{Bor}
 use Rattle.chart.specs.Fields.{Field}
 use Rattle.validity.specs.Tables.{states, graph_of, owner_of, depth_within, depth_of}
 
--- i levels up from s stands a, at d levels below it
-pub record Climbed (fs : List Field) (s a d i : ℕ) : Type 0 where
-  pub counted : d ≡ i + 1
-  pub levels : i + depth_within fs (states fs - i) a ≡ depth_of fs s
+module _ (fs : List Field) where
+  abbrev around : ℕ → Option ℕ
+  around s = cond (eqb s 0) None (Some (owner_of fs (graph_of fs s)))
 
-module _ (fs : List Field) (s : ℕ) where
-  pub climbed_none : Climbed fs s s 1 0
-  climbed_none =
-      let n = states fs in
-      let e : n - 0 ≡ n = omega arith in
-      let f : depth_within fs (n - 0) s ≡ depth_within fs n s = ap (λ m. depth_within fs m s) e in
-      record { counted = omega arith; levels = omega arith }
+  -- the first of so many levels stands at o
+  abbrev levels : ℕ → Option ℕ → ℕ
+  levels zero o = 0
+  levels (suc n) None = 0
+  levels (suc n) (Some s) = suc (levels n (around s))
 
-  pub climbed_more : (a d i : ℕ) → Climbed fs s a d i → (a ≡ 0 → ⊥) → i < states fs → (g o : ℕ) → g ≡ graph_of fs a → o ≡ owner_of fs g → Climbed fs s o (d + 1) (i + 1)
-  climbed_more a d i h ne l g o p q =
-      let n = states fs in
-      let e : n - i ≡ suc (n - (i + 1)) = omega arith in
-      let f : depth_within fs (n - i) a ≡ suc (depth_within fs (n - (i + 1)) o) =
-      ap (λ m. depth_within fs m a) e ∙ ap (λ t. cond t 1 (suc (depth_within fs (n - (i + 1)) (owner_of fs (graph_of fs a))))) (ne_eqb a 0 ne)
-      ∙ ap (λ x. suc (depth_within fs (n - (i + 1)) x)) (ap (owner_of fs) (sym p) ∙ sym q)
-      in
-      record { counted = omega arith; levels = omega arith }
+  root_or_not : (n o d : ℕ) (b : Bool) → levels (suc n) (Some o) ≡ d → suc (levels (suc n) (cond b None (Some o))) ≡ cond b 1 (suc d)
+  root_or_not n o d true e = refl
+  root_or_not n o d false e = ap suc e
 
-  at_root : (m : ℕ) → depth_within fs m 0 ≡ 1
-  at_root zero = refl
-  at_root (suc m) = refl
+  deep : (n s : ℕ) → levels (suc n) (Some s) ≡ depth_within fs n s
+  deep zero s = refl
+  deep (suc n) s = let o = owner_of fs (graph_of fs s) in root_or_not n o (depth_within fs n o) (eqb s 0) (deep n o)
 
-  pub climbed_root : (a d i : ℕ) → Climbed fs s a d i → a ≡ 0 → d ≡ depth_of fs s
-  climbed_root a d i h e =
-      let f : depth_within fs (states fs - i) a ≡ 1 = ap (depth_within fs (states fs - i)) e ∙ at_root (states fs - i) in
-      omega arith
+  module _ {F : Type 0} {g : Mut F (Bor ℕ × Unit {0}) (Option ℕ)} {f : F} (tells : (x : ℕ) (o : Option ℕ) (q : F) → CalledAt g f x o q → (q ≡ f) × (o ≡ around x)) where
+    abbrev Steps : Take (Successors ℕ F) → Option ℕ → Take (Successors ℕ F) → Type 0
+    Steps = take_steps (successors_steps g)
 
-  pub climbed_all : (a d i : ℕ) → Climbed fs s a d i → states fs ≤ i → d ≡ depth_of fs s
-  climbed_all a d i h l =
-      let e : states fs - i ≡ 0 = omega arith in
-      let f : depth_within fs (states fs - i) a ≡ 1 = ap (λ m. depth_within fs m a) e in
-      omega arith
+    none_left : (n : ℕ) (o : Option ℕ) → (0 < n → None ≡ o) → 0 ≡ levels n o
+    none_left zero o h = refl
+    none_left (suc n) None h = refl
+    none_left (suc n) (Some s) h = absurd (let e = h (omega arith) in let z : ◌≡◌ {A = ℕ} 0 1 = cc in omega arith)
+
+    counted : (xs : List ℕ) (n : ℕ) (s t u : Take (Successors ℕ F)) → take_count s ≡ n → successors_callee (take_source s) ≡ f → Yields Steps s xs t → Steps t None u → length xs ≡ levels n (successors_next (take_source s))
+    counted [] n s t u c e y d = none_left n (successors_next (take_source s)) (λ l. subst (λ i. 0 < take_count i → None ≡ successors_next (take_source i)) (sym y) (λ m. (d m).0) (omega arith))
+    counted (x ∷ xs) zero s t u c e y d = absurd (omega (arith, y.1.1))
+    counted (x ∷ xs) (suc n) s t u c e y d =
+        let told = tells x (successors_next (take_source y.0)) (successors_callee (take_source y.0)) (subst (λ i. CalledAt g i x (successors_next (take_source y.0)) (successors_callee (take_source y.0))) e y.1.0.1) in
+        ap suc (counted xs n y.0 t u (omega (arith, y.1.1)) told.0 y.2 d ∙ ap (levels n) told.1) ∙ ap (levels (suc n)) y.1.0.0
+
+    pub depth_counted : (s : Take (Successors ℕ F)) (r state : ℕ) → take_count s ≡ states fs + 1 → successors_callee (take_source s) ≡ f → successors_next (take_source s) ≡ Some state → (xs : List ℕ) × Drains Steps s xs × (r ≡ length xs) → r ≡ depth_of fs state
+    depth_counted s r state c e first d =
+        let n : states fs + 1 ≡ suc (states fs) = omega arith in
+        d.2 ∙ counted d.0 (suc (states fs)) s d.1.1.0 d.1.0 (c ∙ n) e d.1.1.1 d.1.1.2 ∙ ap (levels (suc (states fs))) first ∙ deep (states fs) state
