@@ -1,5 +1,6 @@
 pub mod Bools
 pub mod Bytes
+pub mod Results
 pub mod Cutting
 pub mod Forms
 pub mod Counting

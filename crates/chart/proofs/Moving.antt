@@ -1,5 +1,5 @@
 -- What the reader's next call finds, from where it stands.
-use Rattle.std.proofs.Common.{◌≡◌, ℕ, ◌+◌, ◌/◌, ◌%◌, ◌<◌, ◌≤◌, true, List, [], ◌∷◌, ◌++◌, reverse, length, drop, Some, None, Ok, Err, Option, sym, refl, ap, ◌∙◌, subst, arith}
+use Rattle.std.proofs.Common.{◌≡◌, ℕ, ◌+◌, ◌/◌, ◌%◌, ◌<◌, ◌≤◌, true, List, [], ◌∷◌, ◌++◌, reverse, length, drop, Some, None, Ok, Err, Option, Result, sym, refl, ap, ◌∙◌, subst, arith}
 use Rattle.chart.specs.declared.kinds.Tag.{Tag}
 use Rattle.chart.specs.declared.limits.Counts.{Counts}
 use Rattle.chart.specs.declared.order.Stage.{Stage}
@@ -14,7 +14,7 @@ use Rattle.chart.specs.Limits.{counts_of, exceeded, added, unless, raised}
 use Rattle.chart.specs.Decoding.{word_at}
 use Rattle.chart.specs.Files.{is_row, Sized, piece, Refused, cut_short}
 use Rattle.chart.specs.Pieces.{Whole}
-use Rattle.chart.specs.Progress.{before, Position}
+use Rattle.chart.specs.Progress.{before, or_beyond, Position}
 use Rattle.chart.specs.Reading.{judge}
 use Rattle.chart.specs.Stages.{admits, after, stage_of}
 use Rattle.chart.proofs.Bytes.{byte_rest, bytes_front, drop_bytes}
@@ -31,6 +31,14 @@ unless_err (Some k) c l e = let s : k ≡ l = cc in ap Some s
 unless_ok : (o : Option Limit) (c d : Counts) → Ok d ≡ unless o c → (o ≡ None) × (d ≡ c)
 unless_ok None c d e = (refl, (cc))
 unless_ok (Some k) c d e = absurd (let z : ◌≡◌ {A = ℕ} 0 1 = cc in omega arith)
+
+beyond_err : (p : ℕ) (r : Result Counts Limit) (e : Refusal) → Err e ≡ or_beyond p r → (l : Limit) × (Err l ≡ r) × (e ≡ BeyondLimit p l)
+beyond_err p (Ok c) e h = absurd (let z : ◌≡◌ {A = ℕ} 0 1 = cc in omega arith)
+beyond_err p (Err l) e h = (l, refl, (cc))
+
+beyond_ok : (p : ℕ) (r : Result Counts Limit) (c : Counts) → Ok c ≡ or_beyond p r → Ok c ≡ r
+beyond_ok p (Ok d) c h = let s : c ≡ d = cc in ap Ok s
+beyond_ok p (Err l) c h = absurd (let z : ◌≡◌ {A = ℕ} 0 1 = cc in omega arith)
 
 module _ (b : List ℕ) (at : ℕ) (stage : Stage) (counts : Counts) (pos : Position b at stage counts) (rest : List ℕ) (is : rest ≡ drop at b) (sized : Sized b) where
   abbrev front : List Field
@@ -58,17 +66,25 @@ module _ (b : List ℕ) (at : ℕ) (stage : Stage) (counts : Counts) (pos : Posi
       good_field : Judged (admits stage) code c f
       good_field = judged (admits stage) at code c f (sym j)
 
-      pub limit_refused : (l : Limit) → Err l ≡ raised counts f → Refused b (BeyondLimit at l)
-      limit_refused l r =
+      limit_refused_by : (l : Limit) → Err l ≡ raised counts f → Refused b (BeyondLimit at l)
+      limit_refused_by l r =
           refused b at pos.within pos.passed pos.row sized rest is (BeyondLimit at l)
           (limit_fault (admits stage) front may at code c (drop (3 + length c) rest) rest whole contents_bytes f l good_field (raised_limits f (Some l) (unless_err (exceeded (added counts f)) (added counts f) l r)))
 
-      module _ (more : Counts) (r : Ok more ≡ raised counts f) where
+      pub limit_refused : (e : Refusal) → Err e ≡ or_beyond at (raised counts f) → Refused b e
+      limit_refused e h =
+          let l = beyond_err at (raised counts f) e h in
+          subst (Refused b) (sym l.2) (limit_refused_by l.0 l.1)
+
+      module _ (more : Counts) (within : Ok more ≡ or_beyond at (raised counts f)) where
+        more_is : (exceeded (added counts f) ≡ None) × (more ≡ added counts f)
+        more_is = unless_ok (exceeded (added counts f)) (added counts f) more (beyond_ok at (raised counts f) more within)
+
         fits : Written (tag_of f) c f × (tag_code (tag_of f) ≡ code) × (admits stage (tag_of f) ≡ true)
         fits = judged_written (admits stage) code c f contents_bytes good_field
 
         stands : Stands front f
-        stands = judged_stands (admits stage) front may code c contents_bytes f good_field (raised_limits f None (unless_ok (exceeded (added counts f)) (added counts f) more r).0)
+        stands = judged_stands (admits stage) front may code c contents_bytes f good_field (raised_limits f None more_is.0)
 
         pub row_is : before b (at + 3 + length c) ≡ before b at ++ (f ∷ [])
         row_is = before_more b at pos.within pos.passed pos.row rest is code c whole f fits.0.bytes fits.1 stands
@@ -81,5 +97,5 @@ module _ (b : List ℕ) (at : ℕ) (stage : Stage) (counts : Counts) (pos : Posi
               passed = passed_more b at pos.within pos.passed pos.row rest is code c whole f fits.0.bytes fits.1 stands;
               row = ap is_row row_is ∙ row_more b at pos.within pos.passed pos.row rest is code c whole f fits.0.bytes fits.1 stands;
               staged = ap (λ s. after s f) pos.staged ∙ sym (ap stage_of turned);
-              counted = (unless_ok (exceeded (added counts f)) (added counts f) more r).1 ∙ ap (λ k. added k f) pos.counted ∙ sym (ap counts_of turned);
+              counted = more_is.1 ∙ ap (λ k. added k f) pos.counted ∙ sym (ap counts_of turned);
             }

@@ -1,5 +1,5 @@
 -- The field that a tag and contents stand for, or the first part of the contents that is not allowed. Assumes nothing.
-use Rattle.std.specs.Prelude.{ℕ, suc, ◌+◌, ◌*◌, Bool, cond, List, length, drop, Some, None, Ok, Err, Option, Result, ◌==◌, slice_index}
+use Rattle.std.specs.Prelude.{◌≡◌, ℕ, suc, ◌+◌, ◌*◌, Bool, true, false, cond, List, length, drop, Some, None, Ok, Err, Option, Result, ◌==◌, slice_index}
 use Rattle.chart.specs.declared.kinds.Tag.{Tag}
 use Rattle.chart.specs.declared.kinds.Tag.TheVariants.{Signal, State, Graph, Transition, Suspension, Trigger, Effects}
 use Rattle.chart.specs.declared.refusals.Part.{Part}
@@ -7,6 +7,10 @@ use Rattle.chart.specs.declared.refusals.Part.TheVariants.{Length, Kind, Flag, N
 use Rattle.chart.specs.Kinds.{signal_kind_from, state_kind_from, transition_kind_from, flag_from}
 use Rattle.chart.specs.Fields.{Field, signal, state, graph, transition, suspension, trigger, effects}
 use Rattle.chart.specs.WellFormed.{between, is_name}
+
+-- this part is wrong, but where the test holds
+abbrev pub tested : Bool → Part → Result (Unit {0}) Part
+tested ok p = cond ok (Ok tt) (Err p)
 
 -- go on where the test holds, else this part is wrong
 abbrev pub provided : Bool → Part → Result Field Part → Result Field Part
@@ -34,6 +38,16 @@ abbrev pub named_state : ℕ → ℕ → List ℕ → Result Field Part
 named_state g code name =
     provided (between 1 16 (length name)) Length
     (given (state_kind_from code) Kind (λ k. provided (is_name name) Name (Ok (state g k name))))
+
+-- a kind as it is read and the name behind it
+abbrev pub with_name : {K : Type 0} → Result K Part → List ℕ → Result K Part
+with_name (Ok k) name = cond (is_name name) (Ok k) (Err Name)
+with_name (Err p) name = Err p
+
+-- What is told of a name behind a kind that is read so: the name's length is looked at first, then the kind, then the name's bytes.
+pub record Named {K : Type 0} (reads : Result K Part → Type 0) (name : List ℕ) (r : Result K Part) : Type 0 where
+  pub length_wrong : between 1 16 (length name) ≡ false → r ≡ Err Length
+  pub length_right : between 1 16 (length name) ≡ true → (kind : Result K Part) × reads kind × (r ≡ with_name kind name)
 
 abbrev pub decode : Tag → List ℕ → Result Field Part
 decode Signal c = named_signal (slice_index c 0) (drop 1 c)

@@ -8,6 +8,7 @@ use Rattle.chart.specs.declared.kinds.StateKind.{StateKind}
 use Rattle.chart.specs.declared.kinds.StateKind.TheVariants.{Simple, Final, Macro}
 use Rattle.chart.specs.declared.kinds.TransitionKind.{TransitionKind}
 use Rattle.chart.specs.declared.kinds.TransitionKind.TheVariants.{Strong, Weak, Normal}
+use Rattle.chart.specs.declared.kinds.UnknownTag.{UnknownTag}
 
 abbrev pub tag_code : Tag → ℕ
 tag_code Signal = 1
@@ -48,6 +49,10 @@ tag_from n =
     cond (n == 1) (Some Signal) (cond (n == 2) (Some State) (cond (n == 3) (Some Graph)
     (cond (n == 4) (Some Transition) (cond (n == 5) (Some Suspension) (cond (n == 6) (Some Trigger)
     (cond (n == 7) (Some Effects) None))))))
+
+-- the error for a code that no tag has
+abbrev pub unknown_tag : ℕ → UnknownTag
+unknown_tag n = record { 0 = n }
 
 abbrev pub signal_kind_from : ℕ → Option SignalKind
 signal_kind_from = one_of_three Input Output Internal

@@ -22,4 +22,4 @@ pub record Listed (b : List ℕ) (ps : List Placed) : Type 0 where
 -- Why there are no fields, with room for so many: the file is refused so, or there was not enough room.
 abbrev pub Why : List ℕ → ℕ → ReadError → Type 0
 Why b room (error.TheVariants.Refused e) = Refused b e
-Why b room Memory = 3 * room < length b
+Why b room (Memory e) = 3 * room < length b

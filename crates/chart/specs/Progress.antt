@@ -3,7 +3,9 @@ use Rattle.std.specs.Prelude.{◌≡◌, ℕ, ◌<◌, ◌≤◌, true, List, []
 use Rattle.chart.specs.declared.fields.Placed.{Placed}
 use Rattle.chart.specs.declared.limits.Counts.{Counts}
 use Rattle.chart.specs.declared.order.Stage.{Stage}
+use Rattle.chart.specs.declared.refusals.Limit.{Limit}
 use Rattle.chart.specs.declared.refusals.Refusal.{Refusal}
+use Rattle.chart.specs.declared.refusals.Refusal.TheVariants.{BeyondLimit}
 use Rattle.chart.specs.Fields.{Field, encode_all}
 use Rattle.chart.specs.Files.{is_row, Passes, Refused}
 use Rattle.chart.specs.Limits.{counts_of}
@@ -14,6 +16,11 @@ use Rattle.chart.specs.Stated.{stated}
 -- the fields in front of a place
 abbrev pub before : List ℕ → ℕ → List Field
 before b at = row_of (take at b)
+
+-- the counts, or the refusal of the field at p that passes a limit
+abbrev pub or_beyond : ℕ → Result Counts Limit → Result Counts Refusal
+or_beyond p (Ok c) = Ok c
+or_beyond p (Err l) = Err (BeyondLimit p l)
 
 -- Where a reader may stand: the bytes in front of the place are the encodings of a row of fields, and stage and counts are those behind that row.
 pub record Position (b : List ℕ) (at : ℕ) (stage : Stage) (counts : Counts) : Type 0 where

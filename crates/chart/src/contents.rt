@@ -1,12 +1,21 @@
 // A field's contents, once its tag is known.
-ghost use Rattle.std.specs.Prelude.{◌≡◌};
-ghost use Rattle.chart.specs.Decoding.{decode as decoded, word_in, named_signal, named_state};
+ghost use Rattle.std.specs.Prelude.{◌≡◌, ◌+◌, ◌*◌, length};
+ghost use Rattle.std.specs.Option.{ok_or};
+ghost use Rattle.chart.specs.WellFormed.{between, is_name};
+ghost use Rattle.chart.specs.Decoding.{decode as decoded, tested, word_in, Named};
 ghost use Rattle.chart.specs.Stated.{stated_by};
 
 use crate::fields::Field;
-use crate::kinds::{SignalKind, StateKind, Tag, TransitionKind, flag_from_code};
+use crate::kinds::{Tag, TransitionKind, flag_from_code};
 use crate::names::is_name;
 use crate::refusals::Part;
+
+const LONGEST_NAME: usize = 16;
+
+/// A trigger has no more symbols.
+const LONGEST_TRIGGER: usize = 32;
+
+const MOST_EFFECTS: usize = 16;
 
 /// The field of this tag with these contents, or the first part of them that is not allowed: length, kind, flag, name.
 pub(crate) fn decode(tag: Tag, contents: &[u8]) -> Result<Field<'_>, Part>
@@ -15,86 +24,86 @@ pub(crate) fn decode(tag: Tag, contents: &[u8]) -> Result<Field<'_>, Part>
     match tag {
         Tag::Signal => signal(contents),
         Tag::State => state(contents),
-        Tag::Graph => match word(contents) {
-            Some(owner) => Ok(Field::Graph { owner }),
-            None => Err(Part::Length),
-        },
+        Tag::Graph => Ok(Field::Graph {
+            owner: only_word(contents)?,
+        }),
         Tag::Transition => transition(contents),
-        Tag::Suspension => match word(contents) {
-            Some(state) => Ok(Field::Suspension { state }),
-            None => Err(Part::Length),
-        },
+        Tag::Suspension => Ok(Field::Suspension {
+            state: only_word(contents)?,
+        }),
         Tag::Trigger => {
-            if contents.is_empty() || contents.len() > 32 {
-                return Err(Part::Length);
-            }
+            check_length(contents, LONGEST_TRIGGER)?;
             Ok(Field::Trigger { postfix: contents })
         }
         Tag::Effects => {
-            if contents.is_empty() || contents.len() > 16 {
-                return Err(Part::Length);
-            }
+            check_length(contents, MOST_EFFECTS)?;
             Ok(Field::Effects { signals: contents })
         }
     }
 }
 
-/// A two-byte number, high byte first, where there are two bytes and no more.
-fn word(contents: &[u8]) -> Option<u16>
-    ensures { result ≡ word_in contents.now }
+/// There are 1 to `most` bytes.
+fn check_length(bytes: &[u8], most: usize) -> Result<(), Part>
+    ensures { result ≡ tested (between 1 most (length bytes.now)) Part.Length }
+{
+    if bytes.is_empty() || bytes.len() > most {
+        return Err(Part::Length);
+    }
+    Ok(())
+}
+
+/// A two-byte number, high byte first.
+pub(crate) fn word(high: u8, low: u8) -> u16
+    ensures { result ≡ high * 256 + low }
+{
+    u16::from_be_bytes([high, low])
+}
+
+/// The number that the contents are.
+fn only_word(contents: &[u8]) -> Result<u16, Part>
+    ensures { result ≡ ok_or (word_in contents.now) Part.Length }
 {
     match contents {
-        [high, low] => Some(*high as u16 * 256 + *low as u16),
-        _ => None,
+        [high, low] => Ok(word(*high, *low)),
+        _ => Err(Part::Length),
     }
 }
 
 fn signal(contents: &[u8]) -> Result<Field<'_>, Part>
     ensures { stated_by result ≡ decoded Tag.Signal contents.now }
 {
-    match contents {
-        [code, name @ ..] => named_signal(*code, name),
-        [] => Err(Part::Length),
-    }
-}
-
-fn named_signal(code: u8, name: &[u8]) -> Result<Field<'_>, Part>
-    ensures { stated_by result ≡ named_signal code name.now }
-{
-    if name.is_empty() || name.len() > 16 {
+    let [code, name @ ..] = contents else {
         return Err(Part::Length);
-    }
-    let Some(kind) = SignalKind::from_code(code) else {
-        return Err(Part::Kind);
     };
-    if !is_name(name) {
-        return Err(Part::Name);
-    }
+    let kind = named(*code, name)?;
     Ok(Field::Signal { kind, name })
 }
 
 fn state(contents: &[u8]) -> Result<Field<'_>, Part>
     ensures { stated_by result ≡ decoded Tag.State contents.now }
 {
-    match contents {
-        [high, low, code, name @ ..] => named_state(*high as u16 * 256 + *low as u16, *code, name),
-        _ => Err(Part::Length),
-    }
+    let [high, low, code, name @ ..] = contents else {
+        return Err(Part::Length);
+    };
+    let kind = named(*code, name)?;
+    Ok(Field::State {
+        graph: word(*high, *low),
+        kind,
+        name,
+    })
 }
 
-fn named_state(graph: u16, code: u8, name: &[u8]) -> Result<Field<'_>, Part>
-    ensures { stated_by result ≡ named_state graph code name.now }
+/// The kind with this code, of a signal or a state of this name.
+fn named<K: TryFrom<u8, Error = Part> + Drop>(code: u8, name: &[u8]) -> Result<K, Part>
+    ensures { Named (K.try_from_gives code) name.now result }
 {
-    if name.is_empty() || name.len() > 16 {
-        return Err(Part::Length);
+    check_length(name, LONGEST_NAME)?;
+    let kind = K::try_from(code)?;
+    if is_name(name) {
+        Ok(kind)
+    } else {
+        Err(Part::Name)
     }
-    let Some(kind) = StateKind::from_code(code) else {
-        return Err(Part::Kind);
-    };
-    if !is_name(name) {
-        return Err(Part::Name);
-    }
-    Ok(Field::State { graph, kind, name })
 }
 
 fn transition(contents: &[u8]) -> Result<Field<'_>, Part>
@@ -103,17 +112,11 @@ fn transition(contents: &[u8]) -> Result<Field<'_>, Part>
     let [source_high, source_low, target_high, target_low, code, flag] = contents else {
         return Err(Part::Length);
     };
-    let Some(kind) = TransitionKind::from_code(*code) else {
-        return Err(Part::Kind);
-    };
-    let Some(immediate) = flag_from_code(*flag) else {
-        return Err(Part::Flag);
-    };
-    let source = *source_high as u16 * 256 + *source_low as u16;
-    let target = *target_high as u16 * 256 + *target_low as u16;
+    let kind = TransitionKind::try_from(*code)?;
+    let immediate = flag_from_code(*flag)?;
     Ok(Field::Transition {
-        source,
-        target,
+        source: word(*source_high, *source_low),
+        target: word(*target_high, *target_low),
         kind,
         immediate,
     })

@@ -1,18 +1,18 @@
 // A whole file: all its fields, or why it is refused.
-ghost use Rattle.std.specs.Prelude.{◌≡◌, [], vec_capacity, MatchResult};
+ghost use Rattle.std.specs.Prelude.{◌≡◌, [], vec_capacity, alloc_error, MatchResult};
 ghost use Rattle.chart.specs.Listing.{Listed, Why};
 ghost use Rattle.chart.specs.declared.files.ReadError.TheVariants.{Memory, Refused as ByRefusal};
 
 use crate::fields::Placed;
 use crate::reader::Reader;
 use crate::refusals::Refusal;
-use std::alloc::AllocFailed;
+use std::alloc::{AllocError, AllocFailed};
 
 /// Why there are no fields: the file is refused, or there was no memory to hold them.
 #[derive(Clone, Copy)]
 pub enum ReadError {
     Refused(Refusal),
-    Memory,
+    Memory(AllocError),
 }
 
 impl From<Refusal> for ReadError {
@@ -24,10 +24,10 @@ impl From<Refusal> for ReadError {
 }
 
 impl<T: Drop> From<AllocFailed<T>> for ReadError {
-    ghost from_gives = { λ _ r. r ≡ Memory };
+    ghost from_gives = { λ _ r. r ≡ Memory alloc_error };
 
-    fn from(_refused: AllocFailed<T>) -> ReadError {
-        ReadError::Memory
+    fn from(refused: AllocFailed<T>) -> ReadError {
+        ReadError::Memory(AllocError::from(refused))
     }
 }
 
@@ -37,13 +37,11 @@ pub fn read_fields<'a>(bytes: &'a [u8], fields: &mut Vec<Placed<'a>>) -> Result<
     ensures { MatchResult result (λ _. Listed bytes.now fields.new.items) (λ e. Why bytes.now (vec_capacity fields.old) e × (fields.new.items ≡ [])) }
 {
     fields.clear();
-    match gather(bytes, fields) {
-        Ok(()) => Ok(()),
-        Err(error) => {
-            fields.clear();
-            Err(error)
-        }
+    let gathered = gather(bytes, fields);
+    if gathered.is_err() {
+        fields.clear();
     }
+    gathered
 }
 
 fn gather<'a>(bytes: &'a [u8], fields: &mut Vec<Placed<'a>>) -> Result<(), ReadError>

@@ -12,20 +12,14 @@ use crate::pieces::cut;
 pub fn field_at(bytes: &[u8], place: usize) -> Option<Field<'_>>
     ensures { stated_if result ≡ field_at bytes.now place }
 {
-    if place > bytes.len() {
-        return None;
-    }
-    let (_, rest) = bytes.split_at(place);
-    first_field(rest)
+    first_field(bytes.get(place..)?)
 }
 
 /// The field in front of `bytes`, if they begin with a whole well-formed one.
 fn first_field(bytes: &[u8]) -> Option<Field<'_>>
     ensures { stated_if result ≡ first_field bytes.now }
 {
-    let Ok(piece) = cut(bytes, 0) else {
-        return None;
-    };
-    let tag = Tag::from_code(piece.code)?;
+    let piece = cut(bytes, 0).ok()?;
+    let tag = Tag::try_from(piece.code).ok()?;
     decode(tag, piece.contents).ok()
 }

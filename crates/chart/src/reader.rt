@@ -1,11 +1,10 @@
 // The reader: it keeps its place in the file's bytes and gives the fields one by one.
-ghost use Rattle.std.specs.Prelude.{◌≡◌, ◌+◌, ◌≤◌, true, [], ◌∷◌, ◌++◌, reverse, length, take, OnOk};
-ghost use Rattle.chart.specs.Fields.{encode_all};
-ghost use Rattle.chart.specs.Files.{is_row, Sized};
-ghost use Rattle.chart.specs.Limits.{counts_of};
-ghost use Rattle.chart.specs.Progress.{before, Position, FieldAt, Next};
+ghost use Rattle.std.specs.Prelude.{◌≡◌, ◌+◌, [], ◌∷◌, ◌++◌, OnOk};
+ghost use Rattle.chart.specs.Files.{Sized};
+ghost use Rattle.chart.specs.Limits.{raised};
+ghost use Rattle.chart.specs.Progress.{before, or_beyond, Position, FieldAt, Next};
 ghost use Rattle.chart.specs.Reading.{judge as judged};
-ghost use Rattle.chart.specs.Stages.{admits, after as follows, stage_of};
+ghost use Rattle.chart.specs.Stages.{admits, after as follows};
 ghost use Rattle.chart.specs.Stated.{stated, stated_by};
 
 use crate::contents::decode;
@@ -24,11 +23,7 @@ pub struct Reader<'a> {
     at: usize,
     stage: Stage,
     counts: Counts,
-    ghost within: { at ≤ length bytes.now },
-    ghost passed: { encode_all (before bytes.now at) ≡ take at bytes.now },
-    ghost row: { is_row (before bytes.now at) ≡ true },
-    ghost staged: { stage ≡ stage_of (reverse (before bytes.now at)) },
-    ghost counted: { counts ≡ counts_of (reverse (before bytes.now at)) },
+    ghost position: { Position bytes.now at stage counts },
 }
 
 impl<'a> Reader<'a> {
@@ -58,11 +53,18 @@ impl<'a> Reader<'a> {
         }
         let piece = cut(rest, place)?;
         let field = judge(self.stage, place, piece)?;
-        let counts = match self.counts.with(&field) {
-            Ok(counts) => counts,
-            Err(limit) => return Err(Refusal::BeyondLimit { place, limit }),
-        };
+        let counts = self.counts_with(&field)?;
         Ok(Some(self.pass(field, piece.contents.len(), counts)))
+    }
+
+    /// The counts with the field that stands here too.
+    fn counts_with(&self, field: &Field<'_>) -> Result<Counts, Refusal>
+        ensures { result ≡ or_beyond self.now.at (raised self.now.counts (stated field.now)) }
+    {
+        let place = self.at;
+        self.counts
+            .with(field)
+            .map_err(|limit| Refusal::BeyondLimit { place, limit })
     }
 
     /// Moves behind the field that stands here, with contents of this length, to these counts.
@@ -84,17 +86,12 @@ impl<'a> Reader<'a> {
 fn judge<'a>(stage: Stage, place: usize, piece: Piece<'a>) -> Result<Field<'a>, Refusal>
     ensures { stated_by result ≡ judged (admits stage) place piece.entry.code piece.entry.contents.now }
 {
-    let Some(tag) = Tag::from_code(piece.code) else {
-        return Err(Refusal::UnknownTag {
-            place,
-            code: piece.code,
-        });
-    };
+    let tag = Tag::try_from(piece.code).map_err(|unknown| Refusal::UnknownTag {
+        place,
+        code: unknown.0,
+    })?;
     if !stage.admits(tag) {
         return Err(Refusal::OutOfOrder { place, tag });
     }
-    match decode(tag, piece.contents) {
-        Ok(field) => Ok(field),
-        Err(part) => Err(Refusal::NotAllowed { place, tag, part }),
-    }
+    decode(tag, piece.contents).map_err(|part| Refusal::NotAllowed { place, tag, part })
 }
