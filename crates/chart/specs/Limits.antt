@@ -24,11 +24,22 @@ counts_of fs = record {
   transitions = count (is Transition) fs;
 }
 
+-- a file has no more of them
+abbrev pub most_of : Limit → ℕ
+most_of Signals = 128
+most_of Inputs = 64
+most_of States = 256
+most_of Graphs = 128
+most_of Transitions = 512
+
+abbrev pub beyond : Limit → ℕ → Bool
+beyond l n = nat_lt (most_of l) n
+
 -- the first limit that is passed
 abbrev pub exceeded : Counts → Option Limit
 exceeded c =
-    cond (nat_lt 128 c.signals) (Some Signals) (cond (nat_lt 64 c.inputs) (Some Inputs) (cond (nat_lt 256 c.states) (Some States)
-    (cond (nat_lt 128 c.graphs) (Some Graphs) (cond (nat_lt 512 c.transitions) (Some Transitions) None))))
+    cond (beyond Signals c.signals) (Some Signals) (cond (beyond Inputs c.inputs) (Some Inputs) (cond (beyond States c.states) (Some States)
+    (cond (beyond Graphs c.graphs) (Some Graphs) (cond (beyond Transitions c.transitions) (Some Transitions) None))))
 
 abbrev pub within_limits : List Field → Bool
 within_limits fs = not (is_some (exceeded (counts_of fs)))

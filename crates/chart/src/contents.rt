@@ -1,5 +1,5 @@
 // A field's contents, once its tag is known.
-ghost use Rattle.std.specs.Prelude.{◌≡◌, ◌+◌, ◌*◌, length};
+ghost use Rattle.std.specs.Prelude.{◌≡◌, length};
 ghost use Rattle.std.specs.Option.{ok_or};
 ghost use Rattle.chart.specs.WellFormed.{between, is_name};
 ghost use Rattle.chart.specs.Decoding.{decode as decoded, tested, word_in, Named};
@@ -8,6 +8,7 @@ ghost use Rattle.chart.specs.Stated.{stated_by};
 use crate::fields::Field;
 use crate::kinds::{Tag, TransitionKind, flag_from_code};
 use crate::names::is_name;
+use crate::numbers::word;
 use crate::refusals::Part;
 
 const LONGEST_NAME: usize = 16;
@@ -50,13 +51,6 @@ fn check_length(bytes: &[u8], most: usize) -> Result<(), Part>
         return Err(Part::Length);
     }
     Ok(())
-}
-
-/// A two-byte number, high byte first.
-pub(crate) fn word(high: u8, low: u8) -> u16
-    ensures { result ≡ high * 256 + low }
-{
-    u16::from_be_bytes([high, low])
 }
 
 /// The number that the contents are.

@@ -9,6 +9,7 @@ pub mod laws;
 mod limits;
 pub mod lookup;
 mod names;
+mod numbers;
 mod order;
 mod pieces;
 pub mod postfix;

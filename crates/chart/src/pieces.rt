@@ -1,6 +1,7 @@
 // The pieces that a file is cut into: a tag, a length and contents.
 ghost use Rattle.chart.specs.Pieces.{Cut, SizeChecked};
 
+use crate::numbers::word;
 use crate::refusals::Refusal;
 
 /// The longest file, in bytes.
@@ -17,15 +18,11 @@ pub(crate) struct Piece<'a> {
 pub(crate) fn check_size(bytes: &[u8]) -> Result<(), Refusal>
     ensures { SizeChecked bytes.now result }
 {
-    let Some(_) = bytes.first() else {
-        return Err(Refusal::Empty);
-    };
-    if bytes.len() > LONGEST {
-        return Err(Refusal::TooLong {
-            length: bytes.len(),
-        });
+    match bytes.len() {
+        0 => Err(Refusal::Empty),
+        1..=LONGEST => Ok(()),
+        length => Err(Refusal::TooLong { length }),
     }
-    Ok(())
 }
 
 /// The piece in front of `bytes`, which stand at `place`.
@@ -35,12 +32,10 @@ pub(crate) fn cut(bytes: &[u8], place: usize) -> Result<Piece<'_>, Refusal>
     let [tag, high, low, rest @ ..] = bytes else {
         return Err(Refusal::CutShort { place });
     };
-    let size = *high as usize * 256 + *low as usize;
-    if size > rest.len() {
-        return Err(Refusal::CutShort { place });
-    }
+    let size = word(*high, *low) as usize;
+    let contents = rest.get(..size).ok_or(Refusal::CutShort { place })?;
     Ok(Piece {
         code: *tag,
-        contents: &rest[0..size],
+        contents,
     })
 }

@@ -35,7 +35,7 @@ impl<'a> Reader<'a> {
             bytes,
             at: 0,
             stage: Stage::Signals,
-            counts: Counts::new(),
+            counts: Counts::default(),
         }
     }
 
