@@ -12,9 +12,10 @@ use Rattle.chart.specs.declared.refusals.Part.TheVariants.{Length, Kind, Flag, N
 use Rattle.chart.specs.Kinds.{tag_code, tag_from, signal_kind_code, state_kind_code, transition_kind_code, flag_code, one_of_three, signal_kind_from, state_kind_from, transition_kind_from, flag_from}
 use Rattle.chart.specs.Fields.{Field, signal, state, graph, transition, suspension, trigger, effects, tag_of, word, contents}
 use Rattle.chart.specs.WellFormed.{every, between, is_name, is_word, is_byte, well_formed}
-use Rattle.chart.specs.Decoding.{provided, given, word_at, word_in, named_signal, named_state, decode}
+use Rattle.chart.specs.Decoding.{provided, given, word_at, word_in, named, named_state, decode}
 use Rattle.chart.specs.Laws.{Written}
 use Rattle.chart.proofs.Bools.{both, join}
+use Rattle.chart.proofs.Results.{some_same, none_some, ok_same, err_ok}
 use Rattle.chart.proofs.Bytes.{byte_first, byte_rest, byte_at, halves, word_back, word_short}
 
 -- Codes.
@@ -33,20 +34,26 @@ tag_back Effects = refl
 name_long : (name : List ℕ) → is_name name ≡ true → between 1 16 (length name) ≡ true
 name_long name h = (both (between 1 16 (length name)) _ (both (between 1 16 (length name) && every _ name) _ h).0).0
 
-named_signal_lem : (k : SignalKind) (name : List ℕ) → is_name name ≡ true → named_signal (signal_kind_code k) name ≡ Ok (signal k name)
-named_signal_lem Input name h = ap₂ (λ l n. provided l Length (provided n Name (Ok (signal Input name)))) (name_long name h) h
-named_signal_lem Output name h = ap₂ (λ l n. provided l Length (provided n Name (Ok (signal Output name)))) (name_long name h) h
-named_signal_lem Internal name h = ap₂ (λ l n. provided l Length (provided n Name (Ok (signal Internal name)))) (name_long name h) h
+signal_kind_back : (k : SignalKind) → signal_kind_from (signal_kind_code k) ≡ Some k
+signal_kind_back Input = refl
+signal_kind_back Output = refl
+signal_kind_back Internal = refl
 
-named_state_lem : (g : ℕ) (k : StateKind) (name : List ℕ) → is_name name ≡ true → named_state g (state_kind_code k) name ≡ Ok (state g k name)
-named_state_lem g Simple name h = ap₂ (λ l n. provided l Length (provided n Name (Ok (state g Simple name)))) (name_long name h) h
-named_state_lem g Final name h = ap₂ (λ l n. provided l Length (provided n Name (Ok (state g Final name)))) (name_long name h) h
-named_state_lem g Macro name h = ap₂ (λ l n. provided l Length (provided n Name (Ok (state g Macro name)))) (name_long name h) h
+state_kind_back : (k : StateKind) → state_kind_from (state_kind_code k) ≡ Some k
+state_kind_back Simple = refl
+state_kind_back Final = refl
+state_kind_back Macro = refl
+
+-- a kind and a name behind it
+named_lem : {K : Type 0} (from : ℕ → Option K) (make : K → Field) (code : ℕ) (k : K) (name : List ℕ) → from code ≡ Some k → is_name name ≡ true → named from make code name ≡ Ok (make k)
+named_lem from make code k name e h =
+    ap₂ (λ l n. provided l Length (given (from code) Kind (λ k. provided n Name (Ok (make k))))) (name_long name h) h ∙ ap (λ o. given o Kind (λ k. Ok (make k))) e
 
 -- the contents of a well-formed field are read as that field
 pub decoded : (f : Field) → well_formed f ≡ true → decode (tag_of f) (contents f) ≡ Ok f
-decoded (signal k name) h = named_signal_lem k name h
-decoded (state g k name) h = ap (λ n. named_state n (state_kind_code k) name) (halves g) ∙ named_state_lem g k name (both (is_word g) (is_name name) h).1
+decoded (signal k name) h = named_lem signal_kind_from (λ k. signal k name) (signal_kind_code k) k name (signal_kind_back k) h
+decoded (state g k name) h =
+    ap (λ n. named_state n (state_kind_code k) name) (halves g) ∙ named_lem state_kind_from (λ k. state g k name) (state_kind_code k) k name (state_kind_back k) (both (is_word g) (is_name name) h).1
 decoded (graph o) h = ap (λ n. Ok (graph n)) (halves o)
 decoded (transition s t Strong true) h = ap₂ (λ m n. Ok (transition m n Strong true)) (halves s) (halves t)
 decoded (transition s t Strong false) h = ap₂ (λ m n. Ok (transition m n Strong false)) (halves s) (halves t)
@@ -66,60 +73,58 @@ provided_ok true p r f e = (refl, e)
 provided_ok false p r f e = ((cc), (cc))
 
 given_ok : {A : Type 0} (o : Option A) (p : Part) (k : A → _) (f : Field) → given o p k ≡ Ok f → (a : A) × (o ≡ Some a) × (k a ≡ Ok f)
-given_ok None p k f e = absurd (let z : ◌≡◌ {A = ℕ} 0 1 = cc in omega arith)
+given_ok None p k f e = err_ok p f e
 given_ok (Some a) p k f e = (a, refl, e)
 
-none_some : {A B : Type 0} (a : A) → None ≡ Some a → B
-none_some a e = absurd (let z : ◌≡◌ {A = ℕ} 0 1 = cc in omega arith)
+named_ok : {K : Type 0} (from : ℕ → Option K) (make : K → Field) (code : ℕ) (name : List ℕ) (f : Field) → named from make code name ≡ Ok f → (k : K) × (from code ≡ Some k) × (is_name name ≡ true) × (make k ≡ f)
+named_ok {K = K} from make code name f e =
+    let onward : K → Result Field Part = λ k. provided (is_name name) Name (Ok (make k)) in
+    let long = provided_ok (between 1 16 (length name)) Length (given (from code) Kind onward) f e in
+    let kind = given_ok (from code) Kind onward f long.1 in
+    let right = provided_ok (is_name name) Name (Ok (make kind.0)) f kind.2 in
+    (kind.0, kind.1, right.0, ok_same (make kind.0) f right.1)
 
 none_of_three : {A : Type 0} (a b c : A) (n : ℕ) → 3 ≤ n → one_of_three a b c n ≡ None
 none_of_three a b c n l = rw (ne_eqb n 0 (λ e. omega arith), ne_eqb n 1 (λ e. omega arith), ne_eqb n 2 (λ e. omega arith))
 
 one_of_three_lem : {A : Type 0} (code : A → ℕ) (a b c : A) → code a ≡ 0 → code b ≡ 1 → code c ≡ 2 → (n : ℕ) (k : A) → one_of_three a b c n ≡ Some k → code k ≡ n
-one_of_three_lem code a b c p q r zero k e = let same : a ≡ k = cc in ap code (sym same) ∙ p
-one_of_three_lem code a b c p q r (suc zero) k e = let same : b ≡ k = cc in ap code (sym same) ∙ q
-one_of_three_lem code a b c p q r (suc (suc zero)) k e = let same : c ≡ k = cc in ap code (sym same) ∙ r
+one_of_three_lem code a b c p q r zero k e = ap code (sym (some_same a k e)) ∙ p
+one_of_three_lem code a b c p q r (suc zero) k e = ap code (sym (some_same b k e)) ∙ q
+one_of_three_lem code a b c p q r (suc (suc zero)) k e = ap code (sym (some_same c k e)) ∙ r
 one_of_three_lem code a b c p q r (suc (suc (suc n))) k e = none_some k (sym (none_of_three a b c (suc (suc (suc n))) (omega arith)) ∙ e)
 
 no_flag : (n : ℕ) → 2 ≤ n → flag_from n ≡ None
 no_flag n l = rw (ne_eqb n 0 (λ e. omega arith), ne_eqb n 1 (λ e. omega arith))
 
 flag_back : (n : ℕ) (b : Bool) → flag_from n ≡ Some b → flag_code b ≡ n
-flag_back zero b e = let same : false ≡ b = cc in ap flag_code (sym same)
-flag_back (suc zero) b e = let same : true ≡ b = cc in ap flag_code (sym same)
+flag_back zero b e = ap flag_code (sym (some_same false b e))
+flag_back (suc zero) b e = ap flag_code (sym (some_same true b e))
 flag_back (suc (suc n)) b e = none_some b (sym (no_flag (suc (suc n)) (omega arith)) ∙ e)
 
-same_field : (f g : Field) → ◌≡◌ {A = Result Field Part} (Ok f) (Ok g) → f ≡ g
-same_field f g e = cc
-
 signal_written : (c : List ℕ) (f : Field) → decode Signal c ≡ Ok f → Written Signal c f
-signal_written [] f e = absurd (let z : ◌≡◌ {A = ℕ} 0 1 = cc in omega arith)
+signal_written [] f e = err_ok Length f e
 signal_written (k ∷ name) f e =
-    let long = provided_ok (between 1 16 (length name)) Length (given (signal_kind_from k) Kind (λ k. provided (is_name name) Name (Ok (signal k name)))) f e in
-    let kind = given_ok (signal_kind_from k) Kind (λ k. provided (is_name name) Name (Ok (signal k name))) f long.1 in
-    let named = provided_ok (is_name name) Name (Ok (signal kind.0 name)) f kind.2 in
-    subst (Written Signal (k ∷ name)) (same_field _ f named.1) (record {
+    let kind = named_ok signal_kind_from (λ k. signal k name) k name f e in
+    subst (Written Signal (k ∷ name)) kind.3 (record {
       tag = refl;
       bytes = ap (λ n. n ∷ name) (one_of_three_lem signal_kind_code Input Output Internal refl refl refl k kind.0 kind.1);
-      formed = named.0;
+      formed = kind.2;
     })
 
 state_written : (c : List ℕ) (f : Field) → every is_byte c ≡ true → decode State c ≡ Ok f → Written State c f
-state_written [] f h e = absurd (let z : ◌≡◌ {A = ℕ} 0 1 = cc in omega arith)
-state_written (a ∷ []) f h e = absurd (let z : ◌≡◌ {A = ℕ} 0 1 = cc in omega arith)
-state_written (a ∷ (b ∷ [])) f h e = absurd (let z : ◌≡◌ {A = ℕ} 0 1 = cc in omega arith)
+state_written [] f h e = err_ok Length f e
+state_written (a ∷ []) f h e = err_ok Length f e
+state_written (a ∷ (b ∷ [])) f h e = err_ok Length f e
 state_written (a ∷ (b ∷ (k ∷ name))) f h e =
     let g = a * 256 + b in
-    let long = provided_ok (between 1 16 (length name)) Length (given (state_kind_from k) Kind (λ k. provided (is_name name) Name (Ok (state g k name)))) f e in
-    let kind = given_ok (state_kind_from k) Kind (λ k. provided (is_name name) Name (Ok (state g k name))) f long.1 in
-    let named = provided_ok (is_name name) Name (Ok (state g kind.0 name)) f kind.2 in
+    let kind = named_ok state_kind_from (λ k. state g k name) k name f e in
     let high = byte_first a (b ∷ (k ∷ name)) h in
     let low = byte_first b (k ∷ name) (byte_rest a (b ∷ (k ∷ name)) h) in
     let back = one_of_three_lem state_kind_code Simple Final Macro refl refl refl k kind.0 kind.1 in
-    subst (Written State (a ∷ (b ∷ (k ∷ name)))) (same_field _ f named.1) (record {
+    subst (Written State (a ∷ (b ∷ (k ∷ name)))) kind.3 (record {
       tag = refl;
       bytes = word_back a b (state_kind_code kind.0 ∷ name) high low ∙ ap (λ n. a ∷ (b ∷ (n ∷ name))) back;
-      formed = join (is_word g) (is_name name) (word_short a b high low) named.0;
+      formed = join (is_word g) (is_name name) (word_short a b high low) kind.2;
     })
 
 -- two bytes
@@ -128,9 +133,9 @@ OfWord make t = (a b : ℕ) → a < 256 → b < 256 → Written t (a ∷ (b ∷ 
 
 word_written : (make : ℕ → Field) (t : Tag) → OfWord make t → (c : List ℕ) (f : Field) → every is_byte c ≡ true → given (word_in c) Length (λ n. Ok (make n)) ≡ Ok f → Written t c f
 unfolding OfWord
-word_written make t w [] f h e = absurd (let z : ◌≡◌ {A = ℕ} 0 1 = cc in omega arith)
-word_written make t w (a ∷ []) f h e = absurd (let z : ◌≡◌ {A = ℕ} 0 1 = cc in omega arith)
-word_written make t w (a ∷ (b ∷ [])) f h e = subst (Written t (a ∷ (b ∷ []))) (same_field _ f e) (w a b (byte_first a (b ∷ []) h) (byte_first b [] (byte_rest a (b ∷ []) h)))
+word_written make t w [] f h e = err_ok Length f e
+word_written make t w (a ∷ []) f h e = err_ok Length f e
+word_written make t w (a ∷ (b ∷ [])) f h e = subst (Written t (a ∷ (b ∷ []))) (ok_same _ f e) (w a b (byte_first a (b ∷ []) h) (byte_first b [] (byte_rest a (b ∷ []) h)))
 word_written make t w (a ∷ (b ∷ (x ∷ c))) f h e =
     let none : word_in (a ∷ (b ∷ (x ∷ c))) ≡ None = rw (ne_eqb (length (a ∷ (b ∷ (x ∷ c)))) 2 (λ e. omega arith)) in
     let got = given_ok (word_in (a ∷ (b ∷ (x ∷ c)))) Length (λ n. Ok (make n)) f e in
@@ -170,7 +175,7 @@ transition_written c f h e =
     let l1 = byte_at c 1 h in
     let l2 = byte_at c 2 h in
     let l3 = byte_at c 3 h in
-    subst (Written Transition c) (same_field _ f flag.2) (record {
+    subst (Written Transition c) (ok_same _ f flag.2) (record {
       tag = refl;
       bytes =
           word_back (get_or c 0 0) (get_or c 1 0) (word t ends) l0 l1
@@ -188,7 +193,7 @@ written Transition c f h e = transition_written c f h e
 written Suspension c f h e = word_written suspension Suspension suspension_of_word c f h e
 written Trigger c f h e =
     let r = provided_ok (between 1 32 (length c)) Length (Ok (trigger c)) f e in
-    subst (Written Trigger c) (same_field _ f r.1) (record { tag = refl; bytes = refl; formed = join (between 1 32 (length c)) (every is_byte c) r.0 h })
+    subst (Written Trigger c) (ok_same _ f r.1) (record { tag = refl; bytes = refl; formed = join (between 1 32 (length c)) (every is_byte c) r.0 h })
 written Effects c f h e =
     let r = provided_ok (between 1 16 (length c)) Length (Ok (effects c)) f e in
-    subst (Written Effects c) (same_field _ f r.1) (record { tag = refl; bytes = refl; formed = join (between 1 16 (length c)) (every is_byte c) r.0 h })
+    subst (Written Effects c) (ok_same _ f r.1) (record { tag = refl; bytes = refl; formed = join (between 1 16 (length c)) (every is_byte c) r.0 h })

@@ -16,28 +16,23 @@ use Rattle.chart.specs.Files.{piece, Faulty, unknown_tag, out_of_order, not_allo
 use Rattle.chart.specs.Reading.{formed, tagged, judge}
 use Rattle.chart.specs.Laws.{Written}
 use Rattle.chart.proofs.Forms.{tag_back, written}
+use Rattle.chart.proofs.Results.{some_same, none_some, ok_same, err_same, err_ok}
 use Rattle.chart.proofs.Rows.{Stands}
 
 no_tag : (n : ℕ) → 8 ≤ n → tag_from n ≡ None
 no_tag n l =
     rw (ne_eqb n 1 (λ e. omega arith), ne_eqb n 2 (λ e. omega arith), ne_eqb n 3 (λ e. omega arith), ne_eqb n 4 (λ e. omega arith), ne_eqb n 5 (λ e. omega arith), ne_eqb n 6 (λ e. omega arith), ne_eqb n 7 (λ e. omega arith))
 
-same_tag : (s t : Tag) → Some s ≡ Some t → s ≡ t
-same_tag s t e = cc
-
-none_tag : {A : Type 0} (t : Tag) → None ≡ Some t → A
-none_tag t e = absurd (let z : ◌≡◌ {A = ℕ} 0 1 = cc in omega arith)
-
 pub tag_code_lem : (n : ℕ) (t : Tag) → tag_from n ≡ Some t → tag_code t ≡ n
-tag_code_lem zero t e = none_tag t e
-tag_code_lem (suc zero) t e = ap tag_code (sym (same_tag Signal t e))
-tag_code_lem (suc (suc zero)) t e = ap tag_code (sym (same_tag State t e))
-tag_code_lem (suc (suc (suc zero))) t e = ap tag_code (sym (same_tag Graph t e))
-tag_code_lem (suc (suc (suc (suc zero)))) t e = ap tag_code (sym (same_tag Transition t e))
-tag_code_lem (suc (suc (suc (suc (suc zero))))) t e = ap tag_code (sym (same_tag Suspension t e))
-tag_code_lem (suc (suc (suc (suc (suc (suc zero)))))) t e = ap tag_code (sym (same_tag Trigger t e))
-tag_code_lem (suc (suc (suc (suc (suc (suc (suc zero))))))) t e = ap tag_code (sym (same_tag Effects t e))
-tag_code_lem (suc (suc (suc (suc (suc (suc (suc (suc n)))))))) t e = none_tag t (sym (no_tag (suc (suc (suc (suc (suc (suc (suc (suc n)))))))) (omega arith)) ∙ e)
+tag_code_lem zero t e = none_some t e
+tag_code_lem (suc zero) t e = ap tag_code (sym (some_same Signal t e))
+tag_code_lem (suc (suc zero)) t e = ap tag_code (sym (some_same State t e))
+tag_code_lem (suc (suc (suc zero))) t e = ap tag_code (sym (some_same Graph t e))
+tag_code_lem (suc (suc (suc (suc zero)))) t e = ap tag_code (sym (some_same Transition t e))
+tag_code_lem (suc (suc (suc (suc (suc zero))))) t e = ap tag_code (sym (some_same Suspension t e))
+tag_code_lem (suc (suc (suc (suc (suc (suc zero)))))) t e = ap tag_code (sym (some_same Trigger t e))
+tag_code_lem (suc (suc (suc (suc (suc (suc (suc zero))))))) t e = ap tag_code (sym (some_same Effects t e))
+tag_code_lem (suc (suc (suc (suc (suc (suc (suc (suc n)))))))) t e = none_some t (sym (no_tag (suc (suc (suc (suc (suc (suc (suc (suc n)))))))) (omega arith)) ∙ e)
 
 -- A good field.
 
@@ -47,22 +42,19 @@ pub record Judged (may : Tag → Bool) (code : ℕ) (c : List ℕ) (f : Field) :
   pub order : may tag ≡ true
   pub read : decode tag c ≡ Ok f
 
-ok_not_err : {A E B : Type 0} (a : A) (x : E) → ◌≡◌ {A = Result A E} (Err x) (Ok a) → B
-ok_not_err a x e = absurd (let z : ◌≡◌ {A = ℕ} 0 1 = cc in omega arith)
-
 formed_ok : (p : ℕ) (t : Tag) (r : Result Field Part) (f : Field) → formed p t r ≡ Ok f → r ≡ Ok f
-formed_ok p t (Ok g) f e = let s : g ≡ f = cc in ap Ok s
-formed_ok p t (Err part) f e = ok_not_err f (NotAllowed p t part) e
+formed_ok p t (Ok g) f e = ap Ok (ok_same g f e)
+formed_ok p t (Err part) f e = err_ok (NotAllowed p t part) f e
 
 pub judged : (may : Tag → Bool) (p code : ℕ) (c : List ℕ) (f : Field) → judge may p code c ≡ Ok f → Judged may code c f
 judged may p code c f e = go (tag_from code) refl e
   where
     then : (t : Tag) → tag_from code ≡ Some t → (b : Bool) → may t ≡ b → cond b (formed p t (decode t c)) (Err (OutOfOrder p t)) ≡ Ok f → Judged may code c f
     then t is true m e = record { tag = t; is = is; order = m; read = formed_ok p t (decode t c) f e }
-    then t is false m e = ok_not_err f (OutOfOrder p t) e
+    then t is false m e = err_ok (OutOfOrder p t) f e
 
     go : (o : Option Tag) → tag_from code ≡ o → tagged may p code c o ≡ Ok f → Judged may code c f
-    go None is e = ok_not_err f (UnknownTag p code) e
+    go None is e = err_ok (UnknownTag p code) f e
     go (Some t) is e = then t is (may t) refl e
 
 -- it has these contents, and is well formed
@@ -76,9 +68,6 @@ judged_written may code c f h j =
 
 -- A fault.
 
-same_refusal : (d e : Refusal) → ◌≡◌ {A = Result Field Refusal} (Err d) (Err e) → d ≡ e
-same_refusal d e r = cc
-
 pub judged_fault : (may : Tag → Bool) (before : List Field) → ((t : Tag) → may t ≡ may_follow before t) → (p code : ℕ) (c more rest : List ℕ) → rest ≡ piece code c ++ more
     → (e : Refusal) → judge may p code c ≡ Err e → Faulty before p rest e
 judged_fault may before same p code c more rest r e h = go (tag_from code) refl h
@@ -87,16 +76,16 @@ judged_fault may before same p code c more rest r e h = go (tag_from code) refl 
     at t is = r ∙ ap (λ n. piece n c ++ more) (sym (tag_code_lem code t is))
 
     unformed : (t : Tag) → tag_from code ≡ Some t → may t ≡ true → (d : Result Field Part) → decode t c ≡ d → formed p t d ≡ Err e → Faulty before p rest e
-    unformed t is m (Ok f) d h = absurd (let z : ◌≡◌ {A = ℕ} 0 1 = cc in omega arith)
-    unformed t is m (Err part) d h = subst (Faulty before p rest) (same_refusal _ e h) (not_allowed t part c more (at t is) (sym (same t) ∙ m) d)
+    unformed t is m (Ok f) d h = err_ok e f (sym h)
+    unformed t is m (Err part) d h = subst (Faulty before p rest) (err_same _ e h) (not_allowed t part c more (at t is) (sym (same t) ∙ m) d)
 
     then : (t : Tag) → tag_from code ≡ Some t → (b : Bool) → may t ≡ b → cond b (formed p t (decode t c)) (Err (OutOfOrder p t)) ≡ Err e → Faulty before p rest e
     then t is true m h = unformed t is m (decode t c) refl h
-    then t is false m h = subst (Faulty before p rest) (same_refusal _ e h) (out_of_order t c more (at t is) (sym (same t) ∙ m))
+    then t is false m h = subst (Faulty before p rest) (err_same _ e h) (out_of_order t c more (at t is) (sym (same t) ∙ m))
 
     go : (o : Option Tag) → tag_from code ≡ o → tagged may p code c o ≡ Err e → Faulty before p rest e
     go None is h =
-        subst (Faulty before p rest) (same_refusal _ e h) (unknown_tag code c more r (λ t q. none_tag t (sym is ∙ ap tag_from (sym q) ∙ tag_back t)))
+        subst (Faulty before p rest) (err_same _ e h) (unknown_tag code c more r (λ t q. none_some t (sym is ∙ ap tag_from (sym q) ∙ tag_back t)))
     go (Some t) is h = then t is (may t) refl h
 
 -- a good field that passes a limit

@@ -1,5 +1,5 @@
 -- What the reader's next call finds, from where it stands.
-use Rattle.std.proofs.Common.{◌≡◌, ℕ, ◌+◌, ◌/◌, ◌%◌, ◌<◌, ◌≤◌, true, List, [], ◌∷◌, ◌++◌, reverse, length, drop, Some, None, Ok, Err, Option, Result, sym, refl, ap, ◌∙◌, subst, arith}
+use Rattle.std.proofs.Common.{◌≡◌, ℕ, ◌+◌, ◌/◌, ◌%◌, ◌<◌, ◌≤◌, true, List, [], ◌∷◌, ◌++◌, reverse, length, drop, Some, None, Ok, Err, Option, Result, sym, refl, ap, ◌∙◌, subst}
 use Rattle.chart.specs.declared.kinds.Tag.{Tag}
 use Rattle.chart.specs.declared.limits.Counts.{Counts}
 use Rattle.chart.specs.declared.order.Stage.{Stage}
@@ -21,24 +21,25 @@ use Rattle.chart.proofs.Bytes.{byte_rest, bytes_front, drop_bytes}
 use Rattle.chart.proofs.Following.{stage_admits}
 use Rattle.chart.specs.Laws.{Written}
 use Rattle.chart.proofs.Judging.{Judged, judged, judged_fault, judged_written, judged_stands, limit_fault}
+use Rattle.chart.proofs.Results.{ok_same, err_same, err_ok}
 use Rattle.chart.proofs.Rows.{Stands, good, reverse_push}
 use Rattle.chart.proofs.Stepping.{refused, after_within, row_more, before_more, passed_more}
 
 unless_err : (o : Option Limit) (c : Counts) (l : Limit) → Err l ≡ unless o c → o ≡ Some l
-unless_err None c l e = absurd (let z : ◌≡◌ {A = ℕ} 0 1 = cc in omega arith)
-unless_err (Some k) c l e = let s : k ≡ l = cc in ap Some s
+unless_err None c l e = err_ok l c e
+unless_err (Some k) c l e = ap Some (err_same k l (sym e))
 
 unless_ok : (o : Option Limit) (c d : Counts) → Ok d ≡ unless o c → (o ≡ None) × (d ≡ c)
-unless_ok None c d e = (refl, (cc))
-unless_ok (Some k) c d e = absurd (let z : ◌≡◌ {A = ℕ} 0 1 = cc in omega arith)
+unless_ok None c d e = (refl, ok_same d c e)
+unless_ok (Some k) c d e = err_ok k d (sym e)
 
 beyond_err : (p : ℕ) (r : Result Counts Limit) (e : Refusal) → Err e ≡ or_beyond p r → (l : Limit) × (Err l ≡ r) × (e ≡ BeyondLimit p l)
-beyond_err p (Ok c) e h = absurd (let z : ◌≡◌ {A = ℕ} 0 1 = cc in omega arith)
-beyond_err p (Err l) e h = (l, refl, (cc))
+beyond_err p (Ok c) e h = err_ok e c h
+beyond_err p (Err l) e h = (l, refl, err_same e (BeyondLimit p l) h)
 
 beyond_ok : (p : ℕ) (r : Result Counts Limit) (c : Counts) → Ok c ≡ or_beyond p r → Ok c ≡ r
-beyond_ok p (Ok d) c h = let s : c ≡ d = cc in ap Ok s
-beyond_ok p (Err l) c h = absurd (let z : ◌≡◌ {A = ℕ} 0 1 = cc in omega arith)
+beyond_ok p (Ok d) c h = ap Ok (ok_same c d h)
+beyond_ok p (Err l) c h = err_ok (BeyondLimit p l) c (sym h)
 
 module _ (b : List ℕ) (at : ℕ) (stage : Stage) (counts : Counts) (pos : Position b at stage counts) (rest : List ℕ) (is : rest ≡ drop at b) (sized : Sized b) where
   abbrev front : List Field

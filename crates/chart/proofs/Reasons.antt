@@ -17,6 +17,7 @@ use Rattle.chart.specs.Reading.{formed, tagged, judge, unless_exceeded, limited,
 use Rattle.chart.proofs.Forms.{tag_back, decoded, written}
 use Rattle.chart.proofs.Judging.{tag_code_lem}
 use Rattle.chart.proofs.Places.{stands}
+use Rattle.chart.proofs.Results.{ok_same, err_same, err_ok}
 use Rattle.chart.proofs.Rows.{good, row, read_piece, along, prepend_all, prepend_err, fields_bytes}
 use Rattle.chart.proofs.Stepping.{read_row}
 use Rattle.chart.proofs.Telling.{Outcome, tell}
@@ -129,20 +130,11 @@ some b h = go (read b) (holds b h)
     go (Ok fs) p = inl (fs, p)
     go (Err e) p = inr (e, p)
 
-same_row : (fs gs : List Field) → ◌≡◌ {A = Result (List Field) Refusal} (Ok fs) (Ok gs) → fs ≡ gs
-same_row fs gs e = cc
-
-same_reason : (d e : Refusal) → ◌≡◌ {A = Result (List Field) Refusal} (Err d) (Err e) → d ≡ e
-same_reason d e r = cc
-
-apart : (fs : List Field) (e : Refusal) → ◌≡◌ {A = Result (List Field) Refusal} (Ok fs) (Err e) → ⊥
-apart fs e r = let z : ◌≡◌ {A = ℕ} 0 1 = cc in omega arith
-
 field : (t : Tag) (c : List ℕ) → every is_byte c ≡ true → (f : Field) → (decode t c ≡ Ok f) ↔ Written t c f
 field t c h f = (written t c f h, λ w. ap₂ decode (sym w.tag) (sym w.bytes) ∙ decoded f w.formed)
 
 no_field : (t : Tag) (c : List ℕ) → every is_byte c ≡ true → ((part : Part) × (decode t c ≡ Err part)) ↔ ((f : Field) → Written t c f → ⊥)
-no_field t c h = (λ r f w. let e = sym r.1 ∙ (field t c h f).1 w in let z : ◌≡◌ {A = ℕ} 0 1 = cc in omega arith, λ none. go none (decode t c) refl)
+no_field t c h = (λ r f w. err_ok r.0 f (sym r.1 ∙ (field t c h f).1 w), λ none. go none (decode t c) refl)
   where
     go : ((f : Field) → Written t c f → ⊥) → (r : Result Field Part) → decode t c ≡ r → (part : Part) × (decode t c ≡ Err part)
     go none (Ok f) e = absurd (none f (written t c f h e))
@@ -154,9 +146,9 @@ format_laws_lem = record {
   field = field;
   no_field = no_field;
   some = some;
-  one_row = λ b fs gs p q. same_row fs gs (sym (passes_read b fs p) ∙ passes_read b gs q);
-  one_reason = λ b d e p q. same_reason d e (sym (refused_read b d p) ∙ refused_read b e q);
-  not_both = λ b fs e p q. apart fs e (sym (passes_read b fs p) ∙ refused_read b e q);
+  one_row = λ b fs gs p q. ok_same fs gs (sym (passes_read b fs p) ∙ passes_read b gs q);
+  one_reason = λ b d e p q. err_same d e (sym (refused_read b d p) ∙ refused_read b e q);
+  not_both = λ b fs e p q. err_ok e fs (sym (refused_read b e q) ∙ passes_read b fs p);
   passes = λ b h fs. (λ e. subst (Holds b) e (holds b h), passes_read b fs);
   refuses = λ b h e. (λ r. subst (Holds b) r (holds b h), refused_read b e);
 }

@@ -29,15 +29,17 @@ word_at c i = slice_index c i * 256 + slice_index c (suc i)
 abbrev pub word_in : List ℕ → Option ℕ
 word_in c = cond (length c == 2) (Some (word_at c 0)) None
 
-abbrev pub named_signal : ℕ → List ℕ → Result Field Part
-named_signal code name =
+-- a code of a kind and a name behind it
+abbrev pub named : {K : Type 0} → (ℕ → Option K) → (K → Field) → ℕ → List ℕ → Result Field Part
+named from make code name =
     provided (between 1 16 (length name)) Length
-    (given (signal_kind_from code) Kind (λ k. provided (is_name name) Name (Ok (signal k name))))
+    (given (from code) Kind (λ k. provided (is_name name) Name (Ok (make k))))
+
+abbrev pub named_signal : ℕ → List ℕ → Result Field Part
+named_signal code name = named signal_kind_from (λ k. signal k name) code name
 
 abbrev pub named_state : ℕ → ℕ → List ℕ → Result Field Part
-named_state g code name =
-    provided (between 1 16 (length name)) Length
-    (given (state_kind_from code) Kind (λ k. provided (is_name name) Name (Ok (state g k name))))
+named_state g code name = named state_kind_from (λ k. state g k name) code name
 
 -- a kind as it is read and the name behind it
 abbrev pub with_name : {K : Type 0} → Result K Part → List ℕ → Result K Part

@@ -4,7 +4,7 @@ use Rattle.std.proofs.lemmas.Iterator.{YieldsList-from_slice}
 use Rattle.std.proofs.lemmas.Iterator.Search.{all_from_yields_List}
 use Rattle.std.proofs.lemmas.Bool.{le-leb}
 use Rattle.chart.proofs.Bools.{join}
-use Rattle.chart.specs.WellFormed.{every, is_name, is_name_byte}
+use Rattle.chart.specs.WellFormed.{every, is_name_byte}
 use Rattle.chart.proofs.names.is_name.Goals as goal
 
 every_is : (p : ℕ → Bool) (xs : List ℕ) → list_all p xs ≡ every p xs

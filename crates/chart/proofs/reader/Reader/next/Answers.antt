@@ -3,11 +3,9 @@ use borrow.Author.Rules.{part_to_end}
 use Rattle.std.proofs.lemmas.Result.{err_from_is_err_and}
 use Rattle.chart.specs.declared.reader.Reader.{Reader}
 use Rattle.chart.specs.Files.{Refused}
-use Rattle.chart.specs.Limits.{exceeded}
-use Rattle.chart.specs.Progress.{before, Position, Next}
+use Rattle.chart.specs.Progress.{Next}
 use Rattle.chart.specs.Stated.{stated}
 use Rattle.chart.proofs.Moving.{cut_refused, fault_refused, limit_refused, row_is, moved}
-use Rattle.chart.proofs.Rows.{good}
 use Rattle.chart.proofs.Stepping.{all_read}
 use Rattle.chart.proofs.reader.Reader.next.Goals as goal
 
@@ -52,7 +50,7 @@ returns-in_err-counts-clause-next c =
     let piece = c.in_ok-piece.piece in
     let p = err_from_is_err_and c.from_residual-in_err-counts.result c.from_residual-in_err-counts.ensures.1 in
     let no = limit_refused r.bytes.now r.at r.stage r.counts r.position (left r) (left_is r) size.0 size.1 piece.code piece.contents.now c.in_ok-piece.ensures
-        (stated c.in_ok-field.field) c.in_ok-field.ensures c.in_err-counts.field-0.0 c.in_err-counts.ensures in
+    (stated c.in_ok-field.field) c.in_ok-field.ensures c.in_err-counts.field-0.0 c.in_err-counts.ensures in
     subst (λ o. Next r.bytes.now r.at o r.at) (sym p.1) (subst (Refused r.bytes.now) (sym p.2) no, refl)
 
 pub pass-requires : goal.pass-requires
