@@ -7,11 +7,9 @@ ghost use Rattle.chart.specs.Stated.{stated_by};
 
 use crate::fields::Field;
 use crate::kinds::{Tag, TransitionKind, flag_from_code};
-use crate::names::is_name;
+use crate::names::{LONGEST_NAME, is_name};
 use crate::numbers::word;
 use crate::refusals::Part;
-
-const LONGEST_NAME: usize = 16;
 
 /// A trigger has no more symbols.
 const LONGEST_TRIGGER: usize = 32;

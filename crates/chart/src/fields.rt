@@ -31,7 +31,7 @@ pub enum Field<'a> {
     Suspension {
         state: u16,
     },
-    /// The condition of the transition or suspension in front, in postfix: 0 to 127 a signal, 128 and, 129 or, 130 not, 131 yes.
+    /// The condition of the transition or suspension in front, in postfix; each byte is to be a symbol.
     Trigger {
         postfix: &'a [u8],
     },

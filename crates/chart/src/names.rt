@@ -2,6 +2,8 @@
 ghost use Rattle.std.specs.Prelude.{◌≡◌};
 ghost use Rattle.chart.specs.WellFormed.{is_name, is_name_byte};
 
+pub(crate) const LONGEST_NAME: usize = 16;
+
 /// A letter, a digit or an underscore.
 fn is_name_byte(byte: u8) -> bool
     ensures { result ≡ is_name_byte byte }
@@ -16,7 +18,7 @@ pub(crate) fn is_name(name: &[u8]) -> bool
     let [first, ..] = name else {
         return false;
     };
-    if name.len() > 16 || first.is_ascii_digit() {
+    if name.len() > LONGEST_NAME || first.is_ascii_digit() {
         return false;
     }
     name.iter().all(|byte| is_name_byte(*byte))

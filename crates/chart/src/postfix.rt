@@ -2,10 +2,10 @@
 ghost use Rattle.std.specs.Prelude.{◌≡◌};
 ghost use Rattle.chart.specs.Postfix.{symbol_from};
 
-/// A signal or an operator of a trigger in postfix.
+/// A signal or an operator of a trigger in postfix: 0 to 127 a signal, 128 and, 129 or, 130 not, 131 yes.
 #[derive(Clone, Copy, PartialEq, Eq)]
 pub enum Symbol {
-    /// A signal by its number, 0 to 127.
+    /// A signal by its number.
     Signal(u8),
     And,
     Or,

@@ -40,6 +40,7 @@ impl<'a> Reader<'a> {
     }
 
     /// The next field with its place, or none at the end of the file; a refusal leaves the reader where it is.
+    // A method and no iterator: an iterator would give the same refusal without end.
     pub fn next(&mut self) -> Result<Option<Placed<'a>>, Refusal>
         ensures same { self.new.bytes.now ≡ self.old.bytes.now }
         ensures next { Next self.old.bytes.now self.old.at result self.new.at }
@@ -52,9 +53,24 @@ impl<'a> Reader<'a> {
             return Ok(None);
         }
         let piece = cut(rest, place)?;
-        let field = judge(self.stage, place, piece)?;
+        let field = self.judge(piece)?;
         let counts = self.counts_with(&field)?;
         Ok(Some(self.pass(field, piece.contents.len(), counts)))
+    }
+
+    /// The field that the piece here is, if one with its tag may stand here.
+    fn judge(&self, piece: Piece<'a>) -> Result<Field<'a>, Refusal>
+        ensures { stated_by result ≡ judged (admits self.now.stage) self.now.at piece.entry.code piece.entry.contents.now }
+    {
+        let place = self.at;
+        let tag = Tag::try_from(piece.code).map_err(|unknown| Refusal::UnknownTag {
+            place,
+            code: unknown.0,
+        })?;
+        if !self.stage.admits(tag) {
+            return Err(Refusal::OutOfOrder { place, tag });
+        }
+        decode(tag, piece.contents).map_err(|part| Refusal::NotAllowed { place, tag, part })
     }
 
     /// The counts with the field that stands here too.
@@ -80,18 +96,4 @@ impl<'a> Reader<'a> {
         self.counts = counts;
         Placed { place, field }
     }
-}
-
-/// The field that the piece is, if one with its tag may stand at this stage.
-fn judge<'a>(stage: Stage, place: usize, piece: Piece<'a>) -> Result<Field<'a>, Refusal>
-    ensures { stated_by result ≡ judged (admits stage) place piece.entry.code piece.entry.contents.now }
-{
-    let tag = Tag::try_from(piece.code).map_err(|unknown| Refusal::UnknownTag {
-        place,
-        code: unknown.0,
-    })?;
-    if !stage.admits(tag) {
-        return Err(Refusal::OutOfOrder { place, tag });
-    }
-    decode(tag, piece.contents).map_err(|part| Refusal::NotAllowed { place, tag, part })
 }

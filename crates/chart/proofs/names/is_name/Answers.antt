@@ -22,5 +22,5 @@ pub returns : goal.returns
 returns c =
     let name = c.args.name.now in
     let ran : c.all.result ≡ list_all is_name_byte name = all_from_yields_List is_name_byte _ _ c.all.result c.all.ensures.ran (YieldsList-from_slice name cc) (λ x b q k. search (rules, tests)) in
-    let long = join _ _ (le-leb _ _ c.in-len1-up.len_at_least) (le-leb _ _ c.if-name-gt16.false) in
+    let long = join _ _ (le-leb _ _ c.in-len1-up.len_at_least) (le-leb _ _ c.if-name-gt-LONGEST_NAME.false) in
     ran ∙ every_is is_name_byte name ∙ alone _ _ _ long c.if-is_ascii_digit.ensures.value
