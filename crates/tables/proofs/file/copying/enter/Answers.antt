@@ -21,8 +21,8 @@ push_reserved-requires c =
     let one : length (before r.bytes.now after.at) ≡ length (before r.bytes.now r.at) + 1 = ap length found.row ∙ length_push (before r.bytes.now r.at) (stated c.in-Some.placed.field) in
     let more : length (before after.bytes.now after.at) ≡ length (before r.bytes.now after.at) = ap (λ x. length (before x after.at)) c.in_ok-placed.ensures.same in
     let bytes = fields_bytes (before after.bytes.now after.at) in
-    let place = at_is after.bytes.now after.at after.within after.passed after.row in
-    let end : after.at ≤ length r.bytes.now = omega (arith, after.within, ap length c.in_ok-placed.ensures.same) in
+    let place = at_is after.bytes.now after.at after.position.within after.position.passed after.position.row in
+    let end : after.at ≤ length r.bytes.now = omega (arith, after.position.within, ap length c.in_ok-placed.ensures.same) in
     omega (arith, v.ok.0, c.loop-placed.invariant.3, c.in_ok-placed.ensures.sized.most)
 
 pub after-next-requires : goal.after-next-requires
@@ -30,11 +30,11 @@ after-next-requires c =
     let r = c.loop-placed.reader in
     let fs = before c.args.bytes.now r.at in
     let bytes = fields_bytes (before r.bytes.now r.at) in
-    let place = at_is r.bytes.now r.at r.within r.passed r.row in
+    let place = at_is r.bytes.now r.at r.position.within r.position.passed r.position.row in
     let after = c.next.new.self in
     let found : FieldAt r.bytes.now r.at c.in-Some.placed after.at = subst (λ o. Next r.bytes.now r.at (Ok o) after.at) c.in-Some.is c.in_ok-placed.ensures.next in
     let many : length fs ≡ length (before r.bytes.now r.at) = ap (λ x. length (before x r.at)) (sym c.loop-placed.invariant.0) in
-    let few : length fs ≤ 5461 = omega (arith, r.within, c.in_ok-placed.ensures.sized.most) in
+    let few : length fs ≤ 5461 = omega (arith, r.position.within, c.in_ok-placed.ensures.sized.most) in
     let n = c.loop-placed.invariant.2 in (
       omega (arith, n.states, count_most (is State) fs),
       omega (arith, n.graphs, count_most (is Graph) fs),
@@ -52,7 +52,7 @@ loop-placed-preserved c =
     let after = c.next.new.self.at in
     let fs = before b r.at in
     let found : FieldAt r.bytes.now r.at p after = subst (λ o. Next r.bytes.now r.at (Ok o) after) c.in-Some.is c.in_ok-placed.ensures.next in
-    let at = at_is r.bytes.now r.at r.within r.passed r.row in
+    let at = at_is r.bytes.now r.at r.position.within r.position.passed r.position.row in
     let n = c.loop-placed.invariant.2 in
     let place : p.place ≡ length (encode_all fs) = found.place ∙ sym at ∙ ap (λ x. length (encode_all (before x r.at))) same in
     let more : before b after ≡ fs ++ (stated p.field ∷ []) = subst (λ x. before x after ≡ before x r.at ++ (stated p.field ∷ [])) same found.row in
