@@ -74,7 +74,7 @@ fn outcome(heap: Global, file: &[u8]) -> Result<String, AllocError> {
             let place = refusal.place();
             format!(in heap; "refused {number} layer {layer} at {place}")
         }
-        Err(ReadError::Memory) => Err(AllocError),
+        Err(ReadError::Memory(error)) => Err(error),
     }
 }
 

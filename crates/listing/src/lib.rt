@@ -25,7 +25,7 @@ pub fn listing(heap: Global, bytes: &[u8]) -> Result<String, AllocError>
     match read_fields(bytes, &mut fields) {
         Ok(()) => chart_text(heap, fields.as_slice()),
         Err(ReadError::Refused(refusal)) => refusal_text(heap, &refusal),
-        Err(ReadError::Memory) => Err(AllocError),
+        Err(ReadError::Memory(error)) => Err(error),
     }
 }
 
