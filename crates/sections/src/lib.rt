@@ -1,28 +1,43 @@
 // The sections of a listing: signals, states, transitions and suspensions.
 #![tactic(auto)]
 
+use crate::section::Section;
+use crate::signals::Signals;
+use crate::states::States;
+use crate::suspensions::Suspensions;
+use crate::transitions::Transitions;
 use loading::charts::Chart;
 use std::alloc::{AllocError, Global};
 
 mod outline;
+mod section;
 mod signals;
 mod states;
 mod suspensions;
 mod transitions;
 
-/// The line of a section that has nothing.
-const NONE: &str = "  none\n";
-
+/// All sections of a chart.
 pub fn all(heap: Global, chart: &Chart) -> Result<String, AllocError> {
-    let mut text = String::new(heap);
-    push_all(chart, &mut text)?;
-    Ok(text)
-}
-
-fn push_all(chart: &Chart, text: &mut String) -> Result<(), AllocError> {
     let tables = chart.tables();
-    signals::push(tables, text)?;
-    states::push(tables, text)?;
-    transitions::push(chart, text)?;
-    suspensions::push(tables, text)
+    let signals = Section {
+        title: "signals",
+        is_empty: tables.signals().is_empty(),
+        lines: Signals { tables },
+    };
+    let states = Section {
+        title: "states",
+        is_empty: tables.states().is_empty(),
+        lines: States { chart },
+    };
+    let transitions = Section {
+        title: "transitions",
+        is_empty: tables.transitions().is_empty(),
+        lines: Transitions { chart },
+    };
+    let suspensions = Section {
+        title: "suspensions",
+        is_empty: tables.suspensions().is_empty(),
+        lines: Suspensions { tables },
+    };
+    format!(in heap; "{signals}{states}{transitions}{suspensions}")
 }

@@ -1,70 +1,98 @@
-// A walk through the tree of states and graphs: it comes to each twice, in front of all that is below it and behind that.
-use tables::tables::Tables;
+// The tree of states: below a state its graphs, below a graph its states.
+use loading::charts::Chart;
+use std::fmt;
+use wording::effects::Effects;
+use wording::kinds::state_word;
+use wording::names::state_name;
 
-/// A state or a graph by its number.
+/// The lines of a state and of all that is below it.
 #[derive(Clone, Copy)]
-pub(crate) enum Item {
-    State(usize),
-    Graph(usize),
+pub(crate) struct StateTree<'a> {
+    pub(crate) chart: &'a Chart,
+    pub(crate) state: usize,
+    pub(crate) depth: usize,
+    /// Whether the state is the first in its graph. The root is in none.
+    pub(crate) is_initial: bool,
 }
 
-/// Where the walk stands: in front of the item and all below it, or behind that.
+/// The lines of a graph and of all that is below it.
 #[derive(Clone, Copy)]
-pub(crate) enum At {
-    Front(Item),
-    Behind(Item),
+struct GraphTree<'a> {
+    chart: &'a Chart,
+    graph: usize,
+    /// The depth of the owner.
+    depth: usize,
 }
 
-/// From the front of the item: to the first below it, or behind it if there is none.
-pub(crate) fn inward(tables: &Tables, item: Item) -> At {
-    match item {
-        Item::State(state) => match graph_of(tables, state, 0) {
-            Some(graph) => At::Front(Item::Graph(graph)),
-            None => At::Behind(item),
-        },
-        Item::Graph(graph) => match state_in(tables, graph, 0) {
-            Some(state) => At::Front(Item::State(state)),
-            None => At::Behind(item),
-        },
+impl fmt::Display for StateTree<'_> {
+    #[cycle(outline)]
+    fn fmt<W: fmt::Write>(&self, f: &mut fmt::Formatter<W>) -> fmt::Result {
+        let StateTree { chart, depth, .. } = *self;
+        self.write_line(f)?;
+        for graph in chart.graphs_of(self.state) {
+            let graph = usize::from(*graph);
+            let tree = GraphTree {
+                chart,
+                graph,
+                depth,
+            };
+            tree.fmt(f)?;
+        }
+        Ok(())
     }
 }
 
-/// From behind the item: to the next beside it, or behind the one above it if there is none.
-pub(crate) fn onward(tables: &Tables, item: Item) -> At {
-    match item {
-        Item::State(state) => {
-            let graph = tables.graph_of(state) as usize;
-            match state_in(tables, graph, state.saturating_add(1)) {
-                Some(next) => At::Front(Item::State(next)),
-                None => At::Behind(Item::Graph(graph)),
-            }
+impl fmt::Display for GraphTree<'_> {
+    #[cycle(outline)]
+    fn fmt<W: fmt::Write>(&self, f: &mut fmt::Formatter<W>) -> fmt::Result {
+        let chart = self.chart;
+        let graph = self.graph;
+        let indent = Indent { depth: self.depth };
+        write!(f, "{indent}    graph {graph}:\n")?;
+        for (i, state) in chart.states_in(graph).iter().enumerate() {
+            let tree = StateTree {
+                chart,
+                state: usize::from(*state),
+                depth: self.depth.saturating_add(1),
+                is_initial: i == 0,
+            };
+            tree.fmt(f)?;
         }
-        Item::Graph(graph) => {
-            let owner = tables.owner_of(graph) as usize;
-            match graph_of(tables, owner, graph.saturating_add(1)) {
-                Some(next) => At::Front(Item::Graph(next)),
-                None => At::Behind(Item::State(owner)),
-            }
-        }
+        Ok(())
     }
 }
 
-/// The first graph of the owner, from this number on.
-fn graph_of(tables: &Tables, owner: usize, from: usize) -> Option<usize> {
-    for graph in from..tables.graph_count() {
-        if tables.owner_of(graph) as usize == owner {
-            return Some(graph);
-        }
+impl StateTree<'_> {
+    fn write_line<W: fmt::Write>(&self, f: &mut fmt::Formatter<W>) -> fmt::Result {
+        let tables = self.chart.tables();
+        let state = self.state;
+        let depth = self.depth;
+        let indent = Indent { depth };
+        let initial = if self.is_initial { "initial " } else { "" };
+        let kind = state_word(tables.kind_of(state));
+        let name = state_name(tables, state);
+        let effects = Effects {
+            tables,
+            signals: tables.sustained_by(state),
+        };
+        write!(
+            f,
+            "{indent}  {state} {initial}{kind} {name}, depth {depth}{effects}\n"
+        )
     }
-    None
 }
 
-/// The first state in the graph, from this number on.
-pub(crate) fn state_in(tables: &Tables, graph: usize, from: usize) -> Option<usize> {
-    for state in from..tables.state_count() {
-        if tables.is_in(graph, state) {
-            return Some(state);
+/// What stands in front of a state of this depth, and of its graphs.
+#[derive(Clone, Copy)]
+struct Indent {
+    depth: usize,
+}
+
+impl fmt::Display for Indent {
+    fn fmt<W: fmt::Write>(&self, f: &mut fmt::Formatter<W>) -> fmt::Result {
+        for _ in 1..self.depth {
+            f.write_str("    ")?;
         }
+        Ok(())
     }
-    None
 }

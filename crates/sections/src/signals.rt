@@ -1,20 +1,22 @@
 // The section on signals.
-use crate::NONE;
-use std::alloc::AllocError;
+use std::fmt;
 use tables::tables::Tables;
 use wording::kinds::signal_word;
 use wording::names::signal_name;
 
-pub(crate) fn push(tables: &Tables, text: &mut String) -> Result<(), AllocError> {
-    text.push_str("signals:\n")?;
-    let signals = tables.signals();
-    if signals.is_empty() {
-        return text.push_str(NONE);
+/// A line for each signal.
+#[derive(Clone, Copy)]
+pub(crate) struct Signals<'a> {
+    pub(crate) tables: &'a Tables,
+}
+
+impl fmt::Display for Signals<'_> {
+    fn fmt<W: fmt::Write>(&self, f: &mut fmt::Formatter<W>) -> fmt::Result {
+        for (number, signal) in self.tables.signals().iter().enumerate() {
+            let kind = signal_word(signal.kind);
+            let name = signal_name(self.tables, number);
+            write!(f, "  {number} {kind} {name}\n")?;
+        }
+        Ok(())
     }
-    for (number, signal) in signals.iter().enumerate() {
-        let kind = signal_word(signal.kind);
-        let name = signal_name(tables, number);
-        write!(text, "  {number} {kind} {name}\n")?;
-    }
-    Ok(())
 }

@@ -1,33 +1,41 @@
 // The section on suspensions.
-use crate::NONE;
-use std::alloc::AllocError;
+use std::fmt;
 use tables::rows::Suspension;
 use tables::tables::Tables;
-use wording::names::state_name;
-use wording::triggers::push_condition;
+use wording::names::StateName;
+use wording::triggers::Condition;
 
-pub(crate) fn push(tables: &Tables, text: &mut String) -> Result<(), AllocError> {
-    text.push_str("suspensions:\n")?;
-    let suspensions = tables.suspensions();
-    if suspensions.is_empty() {
-        return text.push_str(NONE);
-    }
-    for suspension in suspensions {
-        push_line(tables, suspension, text)?;
-    }
-    Ok(())
+/// A line for each suspension.
+#[derive(Clone, Copy)]
+pub(crate) struct Suspensions<'a> {
+    pub(crate) tables: &'a Tables,
 }
 
-fn push_line(
-    tables: &Tables,
-    suspension: &Suspension,
-    text: &mut String,
-) -> Result<(), AllocError> {
-    let state = suspension.state;
-    let name = state_name(tables, state as usize);
-    write!(text, "  {state} {name}")?;
-    if let Some(span) = suspension.trigger {
-        push_condition(tables, Some(tables.bytes(span)), text)?;
+impl fmt::Display for Suspensions<'_> {
+    fn fmt<W: fmt::Write>(&self, f: &mut fmt::Formatter<W>) -> fmt::Result {
+        let tables = self.tables;
+        for suspension in tables.suspensions() {
+            let line = Line { tables, suspension };
+            write!(f, "{line}\n")?;
+        }
+        Ok(())
     }
-    text.push_str("\n")
+}
+
+/// The state that is suspended, and when.
+#[derive(Clone, Copy)]
+struct Line<'a> {
+    tables: &'a Tables,
+    suspension: &'a Suspension,
+}
+
+impl fmt::Display for Line<'_> {
+    fn fmt<W: fmt::Write>(&self, f: &mut fmt::Formatter<W>) -> fmt::Result {
+        let tables = self.tables;
+        let number = usize::from(self.suspension.state);
+        let state = StateName { tables, number };
+        let trigger = self.suspension.trigger.map(|span| tables.bytes(span));
+        let condition = Condition { tables, trigger };
+        write!(f, "  {state}{condition}")
+    }
 }

@@ -1,76 +1,89 @@
 // The section on transitions.
-ghost use Rattle.std.specs.Prelude.{◌≤◌, length};
-
-use crate::NONE;
 use loading::charts::Chart;
-use std::alloc::AllocError;
+use std::fmt;
 use tables::rows::Transition;
-use tables::tables::Tables;
-use wording::effects::push_effects;
+use wording::effects::Effects;
 use wording::kinds::transition_word;
-use wording::names::state_name;
-use wording::triggers::push_condition;
+use wording::names::StateName;
+use wording::triggers::Condition;
 
-pub(crate) fn push(chart: &Chart, text: &mut String) -> Result<(), AllocError> {
-    text.push_str("transitions:\n")?;
-    let transitions = chart.tables().transitions();
-    if transitions.is_empty() {
-        return text.push_str(NONE);
+/// A line for each transition.
+#[derive(Clone, Copy)]
+pub(crate) struct Transitions<'a> {
+    pub(crate) chart: &'a Chart,
+}
+
+impl fmt::Display for Transitions<'_> {
+    fn fmt<W: fmt::Write>(&self, f: &mut fmt::Formatter<W>) -> fmt::Result {
+        let chart = self.chart;
+        let transitions = chart.tables().transitions();
+        for (number, transition) in transitions.iter().enumerate() {
+            let priority = count_from(&transitions[..=number], transition.source);
+            let line = Line {
+                chart,
+                number,
+                priority,
+                transition,
+            };
+            write!(f, "{line}\n")?;
+        }
+        Ok(())
     }
-    for (number, transition) in transitions.iter().enumerate() {
-        let priority = count_from(&transitions[0..number], transition.source) + 1;
-        push_line(chart, number, priority, transition, text)?;
-    }
-    Ok(())
 }
 
 /// How many of the transitions have this source.
-fn count_from(transitions: &[Transition], source: u16) -> usize
-    ensures { result ≤ length transitions.now }
-{
-    let mut count = 0;
-    for transition in transitions {
-        if transition.source == source {
-            count += 1;
-        }
-    }
-    count
+fn count_from(transitions: &[Transition], source: u16) -> usize {
+    transitions
+        .iter()
+        .filter(|transition| transition.source == source)
+        .count()
 }
 
-fn push_line(
-    chart: &Chart,
+/// A transition: its kind, where it leads from and to, when it is taken and what it emits.
+#[derive(Clone, Copy)]
+struct Line<'a> {
+    chart: &'a Chart,
     number: usize,
+    /// Its rank among the transitions of its source, from 1 on.
     priority: usize,
-    transition: &Transition,
-    text: &mut String,
-) -> Result<(), AllocError> {
-    let tables = chart.tables();
-    let kind = transition_word(transition.kind);
-    let immediate = if transition.immediate {
-        " immediate"
-    } else {
-        ""
-    };
-    let chain = if chart.is_chain(number) { " chain" } else { "" };
-    write!(
-        text,
-        "  {number} priority {priority} {kind}{immediate}{chain}: "
-    )?;
-    push_ends(tables, transition, text)?;
-    push_condition(tables, tables.trigger_of(number), text)?;
-    push_effects(tables, tables.emitted_by(number), text)?;
-    text.push_str("\n")
+    transition: &'a Transition,
 }
 
-/// Where the transition leads from and to.
-fn push_ends(
-    tables: &Tables,
-    transition: &Transition,
-    text: &mut String,
-) -> Result<(), AllocError> {
-    let source = transition.source;
-    let target = transition.target;
-    let source_name = state_name(tables, source as usize);
-    let target_name = state_name(tables, target as usize);
-    write!(text, "{source} {source_name} -> {target} {target_name}")
+impl fmt::Display for Line<'_> {
+    fn fmt<W: fmt::Write>(&self, f: &mut fmt::Formatter<W>) -> fmt::Result {
+        let tables = self.chart.tables();
+        let number = self.number;
+        let priority = self.priority;
+        let kind = transition_word(self.transition.kind);
+        let immediate = if self.transition.immediate {
+            " immediate"
+        } else {
+            ""
+        };
+        let chain = if self.chart.is_chain(number) {
+            " chain"
+        } else {
+            ""
+        };
+        let source = StateName {
+            tables,
+            number: usize::from(self.transition.source),
+        };
+        let target = StateName {
+            tables,
+            number: usize::from(self.transition.target),
+        };
+        let condition = Condition {
+            tables,
+            trigger: tables.trigger_of(number),
+        };
+        let effects = Effects {
+            tables,
+            signals: tables.emitted_by(number),
+        };
+        write!(
+            f,
+            "  {number} priority {priority} {kind}{immediate}{chain}: {source} -> {target}{condition}{effects}"
+        )
+    }
 }
