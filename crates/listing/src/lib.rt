@@ -8,7 +8,8 @@ ghost use Rattle.verdict.specs.Texts.{Told, Ends};
 use chart::fields::Placed;
 use chart::files::{ReadError, read_fields};
 use std::alloc::{AllocError, Global};
-use verdict::{refusal_text, summary};
+use verdict::refusal_text;
+use verdict::summary::Summary;
 
 mod names;
 mod outline;
@@ -34,7 +35,7 @@ fn chart_text(heap: Global, fields: &[Placed<'_>]) -> Result<String, AllocError>
     ensures { IfOk result (λ text. Ends (fields_in fields.now) (string_bytes text)) }
 {
     let mut text = sections::all(heap, fields)?;
-    let last = summary::line(heap, fields)?;
-    text.push_str(last.as_str())?;
+    let summary = Summary::of_fields(fields);
+    write!(text, "{summary}")?;
     Ok(text)
 }

@@ -7,17 +7,18 @@ ghost use Rattle.loading.specs.Meaning.{copy_in, fields_for};
 ghost use Rattle.load_verdict.specs.Texts.{Told};
 ghost use Rattle.verdict.specs.Texts.{Ends};
 
-use load_verdict::{refusal_text, summary};
+use load_verdict::refusal_text;
 use loading::charts::Chart;
 use std::alloc::{AllocError, Global};
+use verdict::summary::Summary;
 
 /// All that is in a chart, and at the end how much it is.
 pub fn listing(heap: Global, chart: &Chart) -> Result<String, AllocError>
     ensures { IfOk result (λ text. Ends (fields_for chart.now) (string_bytes text)) }
 {
     let mut text = sections::all(heap, chart)?;
-    let last = summary::line(heap, chart.tables())?;
-    text.push_str(last.as_str())?;
+    let summary = Summary::of_tables(chart.tables());
+    write!(text, "{summary}")?;
     Ok(text)
 }
 

@@ -1,31 +1,32 @@
-// What is told of a chart file in a line: how much it holds, or why it is refused.
+// Why a chart file is not loaded, in a line and a sentence.
 #![tactic(auto)]
 
-ghost use Rattle.std.specs.Prelude.{IfOk, string_bytes};
-ghost use Rattle.load_verdict.specs.Texts.{Begins};
+ghost use Rattle.std.specs.Prelude.{◌≡◌, IfOk, string_bytes};
+ghost use Rattle.load_verdict.specs.Texts.{code_of};
+ghost use Rattle.verdict.specs.Texts.{Begins};
 
+use crate::sentences::Sentence;
+use chart::refusals::RefusalCode;
 use loading::refusals::Refusal;
 use std::alloc::{AllocError, Global};
-use verdict::sentences;
+use verdict::refusals;
 
 mod faults;
-mod refusals;
-pub mod summary;
+mod sentences;
 
 /// The number, layer and place of a refusal, and behind them a sentence on it.
 pub fn refusal_text(heap: Global, refusal: &Refusal) -> Result<String, AllocError>
-    ensures { IfOk result (λ text. Begins refusal.now (string_bytes text)) }
+    ensures { IfOk result (λ text. Begins (code_of refusal.now) (string_bytes text)) }
 {
-    let number = refusal.number();
-    let layer = refusal.layer();
-    let place = refusal.place();
-    let sentence = sentence(heap, refusal)?;
-    refusals::text(heap, number, layer, place, sentence.as_str())
+    refusals::text(heap, code(refusal), Sentence(refusal))
 }
 
-fn sentence(heap: Global, refusal: &Refusal) -> Result<String, AllocError> {
-    match refusal {
-        Refusal::Malformed(refusal) => sentences::on(heap, refusal),
-        Refusal::Invalid(invalid) => String::from_str(heap, faults::sentence(invalid.fault)),
+fn code(refusal: &Refusal) -> RefusalCode
+    ensures { result ≡ code_of refusal.now }
+{
+    RefusalCode {
+        number: refusal.number(),
+        layer: refusal.layer(),
+        place: refusal.place(),
     }
 }

@@ -1,9 +1,9 @@
 // The sections of a listing: signals, states, transitions and suspensions.
 #![tactic(auto)]
 
+use crate::outline::StateTree;
 use crate::section::Section;
 use crate::signals::Signals;
-use crate::states::States;
 use crate::suspensions::Suspensions;
 use crate::transitions::Transitions;
 use loading::charts::Chart;
@@ -12,7 +12,6 @@ use std::alloc::{AllocError, Global};
 mod outline;
 mod section;
 mod signals;
-mod states;
 mod suspensions;
 mod transitions;
 
@@ -27,7 +26,7 @@ pub fn all(heap: Global, chart: &Chart) -> Result<String, AllocError> {
     let states = Section {
         title: "states",
         is_empty: tables.states().is_empty(),
-        lines: States { chart },
+        lines: StateTree::root(chart),
     };
     let transitions = Section {
         title: "transitions",

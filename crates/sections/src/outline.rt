@@ -1,18 +1,17 @@
-// The tree of states: below a state its graphs, below a graph its states.
+// The section on states, a tree: below a state its graphs, below a graph its states.
 use loading::charts::Chart;
 use std::fmt;
 use wording::effects::Effects;
-use wording::kinds::state_word;
 use wording::names::state_name;
 
 /// The lines of a state and of all that is below it.
 #[derive(Clone, Copy)]
 pub(crate) struct StateTree<'a> {
-    pub(crate) chart: &'a Chart,
-    pub(crate) state: usize,
-    pub(crate) depth: usize,
+    chart: &'a Chart,
+    state: usize,
+    depth: usize,
     /// Whether the state is the first in its graph. The root is in none.
-    pub(crate) is_initial: bool,
+    is_initial: bool,
 }
 
 /// The lines of a graph and of all that is below it.
@@ -62,14 +61,25 @@ impl fmt::Display for GraphTree<'_> {
     }
 }
 
-impl StateTree<'_> {
+impl<'a> StateTree<'a> {
+    /// The whole tree.
+    pub(crate) fn root(chart: &'a Chart) -> StateTree<'a> {
+        StateTree {
+            chart,
+            state: 0,
+            depth: 1,
+            is_initial: false,
+        }
+    }
+
+    /// The line of the state itself.
     fn write_line<W: fmt::Write>(&self, f: &mut fmt::Formatter<W>) -> fmt::Result {
         let tables = self.chart.tables();
         let state = self.state;
         let depth = self.depth;
         let indent = Indent { depth };
         let initial = if self.is_initial { "initial " } else { "" };
-        let kind = state_word(tables.kind_of(state));
+        let kind = tables.kind_of(state);
         let name = state_name(tables, state);
         let effects = Effects {
             tables,

@@ -1,7 +1,6 @@
 // The section on signals.
 use std::fmt;
 use tables::tables::Tables;
-use wording::kinds::signal_word;
 use wording::names::signal_name;
 
 /// A line for each signal.
@@ -13,7 +12,7 @@ pub(crate) struct Signals<'a> {
 impl fmt::Display for Signals<'_> {
     fn fmt<W: fmt::Write>(&self, f: &mut fmt::Formatter<W>) -> fmt::Result {
         for (number, signal) in self.tables.signals().iter().enumerate() {
-            let kind = signal_word(signal.kind);
+            let kind = signal.kind;
             let name = signal_name(self.tables, number);
             write!(f, "  {number} {kind} {name}\n")?;
         }

@@ -3,7 +3,6 @@ use loading::charts::Chart;
 use std::fmt;
 use tables::rows::Transition;
 use wording::effects::Effects;
-use wording::kinds::transition_word;
 use wording::names::StateName;
 use wording::triggers::Condition;
 
@@ -54,7 +53,7 @@ impl fmt::Display for Line<'_> {
         let tables = self.chart.tables();
         let number = self.number;
         let priority = self.priority;
-        let kind = transition_word(self.transition.kind);
+        let kind = self.transition.kind;
         let immediate = if self.transition.immediate {
             " immediate"
         } else {

@@ -1,26 +1,16 @@
--- Fields counted one by one.
-use Rattle.std.proofs.Common.{◌≡◌, ℕ, ◌+◌, ◌<◌, eqb, List, length, get_or, drop, Some, sym, ap, ◌∙◌, eq-eqb, ne_eqb}
-use Rattle.std.proofs.lemmas.List.{at_drop_more}
+-- Fields counted as they were read, and as they are stated.
+use Rattle.std.proofs.Common.{◌≡◌, ℕ, ◌+◌, Bool, true, false, cond, List, count_by, refl, arith}
+use Rattle.std.proofs.lemmas.List.Recursion.{is_count_by}
 use Rattle.chart.specs.declared.fields.Placed.{Placed}
 use Rattle.chart.specs.declared.kinds.Tag.{Tag}
-use Rattle.chart.specs.Fields.{is, tag_of}
-use Rattle.chart.specs.Kinds.{tag_code, tag_from}
+use Rattle.chart.specs.Fields.{is}
 use Rattle.chart.specs.Limits.{bit, count}
 use Rattle.chart.specs.Listing.{fields_in}
 use Rattle.chart.specs.Stated.{stated}
-use Rattle.chart.proofs.Forms.{tag_back}
 
-codes_apart : (t u : Tag) → tag_code u ≡ tag_code t → u ≡ t
-codes_apart t u e = let same : Some u ≡ Some t = sym (tag_back u) ∙ ap tag_from e ∙ tag_back t in cc
+more : (b : Bool) (n : ℕ) → bit b + n ≡ cond b (1 + n) n
+more true n = refl
+more false n = omega arith
 
-pub same_tag : (t u : Tag) → u ≡ t → bit (eqb (tag_code u) (tag_code t)) ≡ 1
-same_tag t u e = ap bit (eq-eqb (tag_code u) (tag_code t) (ap tag_code e))
-
-pub other_tag : (t u : Tag) → (u ≡ t → ⊥) → bit (eqb (tag_code u) (tag_code t)) ≡ 0
-other_tag t u ne = ap bit (ne_eqb (tag_code u) (tag_code t) (λ e. ne (codes_apart t u e)))
-
--- the next field's tag is u
-pub count_more : (t u : Tag) (ps : List Placed) (i : ℕ) (d : Placed) → i < length ps → u ≡ tag_of (stated (get_or ps i d).field)
-    → count (is t) (fields_in (drop i ps)) ≡ bit (eqb (tag_code u) (tag_code t)) + count (is t) (fields_in (drop (i + 1) ps))
-count_more t u ps i d l e =
-    at_drop_more (λ xs. count (is t) (fields_in xs)) ps i d l ∙ ap (λ v. bit (eqb (tag_code v) (tag_code t)) + count (is t) (fields_in (drop (i + 1) ps))) (sym e)
+pub tally : (t : Tag) (ps : List Placed) → count (is t) (fields_in ps) ≡ count_by (λ p. is t (stated p.field)) ps
+tally t = is_count_by (λ ps. count (is t) (fields_in ps)) (λ p. is t (stated p.field)) refl (λ p ps. more (is t (stated p.field)) (count (is t) (fields_in ps)))

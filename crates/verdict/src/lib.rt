@@ -2,22 +2,20 @@
 #![tactic(auto)]
 
 ghost use Rattle.std.specs.Prelude.{IfOk, string_bytes};
+ghost use Rattle.chart.specs.Refusals.{code_of};
 ghost use Rattle.verdict.specs.Texts.{Begins};
 
+use crate::sentences::Sentence;
 use chart::refusals::Refusal;
 use std::alloc::{AllocError, Global};
 
-mod refusals;
+pub mod refusals;
 pub mod sentences;
 pub mod summary;
 
 /// The number, layer and place of the refusal, and behind them a sentence on it.
 pub fn refusal_text(heap: Global, refusal: &Refusal) -> Result<String, AllocError>
-    ensures { IfOk result (λ text. Begins refusal.now (string_bytes text)) }
+    ensures { IfOk result (λ text. Begins (code_of refusal.now) (string_bytes text)) }
 {
-    let mut text = refusals::line(heap, refusal)?;
-    let sentence = sentences::on(heap, refusal)?;
-    text.push_str(sentence.as_str())?;
-    text.push('\n')?;
-    Ok(text)
+    refusals::text(heap, refusal.code(), Sentence(refusal))
 }

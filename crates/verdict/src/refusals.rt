@@ -1,15 +1,20 @@
-// The first line of a refusal.
-ghost use Rattle.std.specs.Prelude.{◌≡◌, IfOk, string_bytes};
-ghost use Rattle.verdict.specs.Texts.{refusal_line};
+// The text of a refusal: a line with its number, layer and place, and a sentence.
+ghost use Rattle.std.specs.Prelude.{IfOk, string_bytes};
+ghost use Rattle.verdict.specs.Texts.{Begins};
 
-use chart::refusals::Refusal;
+use chart::refusals::RefusalCode;
 use std::alloc::{AllocError, Global};
+use std::fmt;
 
-pub(crate) fn line(heap: Global, refusal: &Refusal) -> Result<String, AllocError>
-    ensures { IfOk result (λ text. string_bytes text ≡ refusal_line refusal.now) }
+/// The line of a refusal with this code, and behind it the sentence.
+pub fn text<S: fmt::Display + Drop>(
+    heap: Global,
+    code: RefusalCode,
+    sentence: S,
+) -> Result<String, AllocError>
+    ensures { IfOk result (λ text. Begins code (string_bytes text)) }
 {
-    let number = refusal.number();
-    let layer = refusal.layer();
-    let place = refusal.place();
-    format!(in heap; "refused {number} layer {layer} at {place}\n")
+    // What the sentence writes is not known; as a text of its own it leaves the line in front of it known.
+    let sentence = format!(in heap; "{sentence}")?;
+    format!(in heap; "{code}\n{sentence}\n")
 }

@@ -1,59 +1,85 @@
 // A plain sentence on each refusal.
 use chart::kinds::Tag;
 use chart::refusals::{Limit, Part, Refusal};
-use std::alloc::{AllocError, Global};
+use std::fmt;
 
 /// What is wrong with the file, in words.
-pub fn on(heap: Global, refusal: &Refusal) -> Result<String, AllocError> {
-    match refusal {
-        Refusal::Empty => String::from_str(
-            heap,
-            "The file is empty; a chart file has 1 to 16384 bytes.",
-        ),
-        Refusal::TooLong { length } => format!(in heap;
-            "The file has {length} bytes; a chart file has 1 to 16384."
-        ),
-        Refusal::CutShort { .. } => String::from_str(
-            heap,
-            "The file ends inside this field: a field has a tag of 1 byte, a length of 2 bytes, and as many bytes of contents as the length says.",
-        ),
-        Refusal::UnknownTag { code, .. } => format!(in heap;
-            "No field has the tag {code}; the tags are 1 signal, 2 state, 3 graph, 4 transition, 5 suspension, 6 trigger and 7 effects.",
-        ),
-        Refusal::OutOfOrder { tag, .. } => out_of_order(heap, *tag),
-        Refusal::NotAllowed { tag, part, .. } => not_allowed(heap, *tag, *part),
-        Refusal::BeyondLimit { limit, .. } => {
-            let limit = most(*limit);
-            format!(in heap; "This field is one too many: a chart has at most {limit}.")
+#[derive(Clone, Copy)]
+pub struct Sentence<'a>(pub &'a Refusal);
+
+impl fmt::Display for Sentence<'_> {
+    fn fmt<W: fmt::Write>(&self, f: &mut fmt::Formatter<W>) -> fmt::Result {
+        match self.0 {
+            Refusal::Empty => f.write_str("The file is empty; a chart file has 1 to 16384 bytes."),
+            Refusal::TooLong { length } => {
+                write!(
+                    f,
+                    "The file has {length} bytes; a chart file has 1 to 16384."
+                )
+            }
+            Refusal::CutShort { .. } => f.write_str(
+                "The file ends inside this field: a field has a tag of 1 byte, a length of 2 bytes, and as many bytes of contents as the length says.",
+            ),
+            Refusal::UnknownTag { code, .. } => write!(
+                f,
+                "No field has the tag {code}; the tags are 1 signal, 2 state, 3 graph, 4 transition, 5 suspension, 6 trigger and 7 effects."
+            ),
+            Refusal::OutOfOrder { tag, .. } => {
+                let field = field(*tag);
+                let rule = order(*tag);
+                write!(f, "This {field} may not stand here: {rule}.")
+            }
+            Refusal::NotAllowed { tag, part, .. } => {
+                let tag = *tag;
+                let part = *part;
+                let name = part_name(part);
+                let field = field(tag);
+                let rule = PartRule { tag, part };
+                write!(f, "The {name} of this {field} is not allowed: {rule}.")
+            }
+            Refusal::BeyondLimit { limit, .. } => {
+                let limit = most(*limit);
+                write!(
+                    f,
+                    "This field is one too many: a chart has at most {limit}."
+                )
+            }
         }
     }
 }
 
-fn out_of_order(heap: Global, tag: Tag) -> Result<String, AllocError> {
-    let field = field(tag);
-    let rule = order(tag);
-    format!(in heap; "This {field} may not stand here: {rule}.")
+/// What is allowed for a part of a field with this tag.
+#[derive(Clone, Copy)]
+struct PartRule {
+    tag: Tag,
+    part: Part,
 }
 
-fn not_allowed(heap: Global, tag: Tag, part: Part) -> Result<String, AllocError> {
-    let field = field(tag);
+impl fmt::Display for PartRule {
+    fn fmt<W: fmt::Write>(&self, f: &mut fmt::Formatter<W>) -> fmt::Result {
+        match self.part {
+            Part::Length => {
+                let contents = contents(self.tag);
+                write!(f, "its contents are {contents}")
+            }
+            Part::Kind => {
+                let kinds = kinds(self.tag);
+                write!(f, "it is {kinds}")
+            }
+            Part::Flag => f.write_str("it is 0, or 1 for an immediate one"),
+            Part::Name => f.write_str(
+                "it has 1 to 16 letters, digits and underscores of ASCII, and no digit first",
+            ),
+        }
+    }
+}
+
+fn part_name(part: Part) -> &'static str {
     match part {
-        Part::Length => {
-            let contents = contents(tag);
-            format!(in heap;
-                "The length of this {field} is not allowed: its contents are {contents}."
-            )
-        }
-        Part::Kind => {
-            let kinds = kinds(tag);
-            format!(in heap; "The kind of this {field} is not allowed: it is {kinds}.")
-        }
-        Part::Flag => format!(in heap;
-            "The flag of this {field} is not allowed: it is 0, or 1 for an immediate one."
-        ),
-        Part::Name => format!(in heap;
-            "The name of this {field} is not allowed: it has 1 to 16 letters, digits and underscores of ASCII, and no digit first.",
-        ),
+        Part::Length => "length",
+        Part::Kind => "kind",
+        Part::Flag => "flag",
+        Part::Name => "name",
     }
 }
 

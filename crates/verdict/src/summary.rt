@@ -1,50 +1,82 @@
 // The last line of a listing: how many of each there are.
-ghost use Rattle.std.specs.Prelude.{◌≡◌, IfOk, string_bytes};
+ghost use Rattle.std.specs.Prelude.{◌≡◌, Some};
 ghost use Rattle.chart.specs.Fields.{is};
 ghost use Rattle.chart.specs.Limits.{count as counted};
 ghost use Rattle.chart.specs.Listing.{fields_in};
-ghost use Rattle.verdict.specs.Texts.{summary_line, summary_of};
+ghost use Rattle.chart.specs.Stated.{stated};
+ghost use Rattle.tables.specs.Views.{fields_of};
+ghost use Rattle.verdict.specs.Texts.{summary_line, summary_in};
 
 use chart::fields::Placed;
 use chart::kinds::Tag;
-use std::alloc::{AllocError, Global};
+use std::fmt;
+use tables::tables::Tables;
 
-pub fn line(heap: Global, fields: &[Placed<'_>]) -> Result<String, AllocError>
-    ensures { IfOk result (λ text. string_bytes text ≡ summary_of (fields_in fields.now)) }
-{
-    let signals = count(fields, Tag::Signal);
-    let states = count(fields, Tag::State);
-    let graphs = count(fields, Tag::Graph);
-    let transitions = count(fields, Tag::Transition);
-    let suspensions = count(fields, Tag::Suspension);
-    counts_line(heap, signals, states, graphs, transitions, suspensions)
+/// How many of each there are.
+#[derive(Clone, Copy, PartialEq, Eq)]
+pub struct Summary {
+    pub signals: usize,
+    pub states: usize,
+    pub graphs: usize,
+    pub transitions: usize,
+    pub suspensions: usize,
 }
 
-/// The line with these counts.
-pub fn counts_line(
-    heap: Global,
-    signals: usize,
-    states: usize,
-    graphs: usize,
-    transitions: usize,
-    suspensions: usize,
-) -> Result<String, AllocError>
-    ensures { IfOk result (λ text. string_bytes text ≡ summary_line signals states graphs transitions suspensions) }
-{
-    format!(in heap;
-        "{signals} signals, {states} states, {graphs} graphs, {transitions} transitions, {suspensions} suspensions\n",
-    )
+impl fmt::Display for Summary {
+    ghost output = { λ s. Some (summary_line s.signals s.states s.graphs s.transitions s.suspensions) };
+
+    fn fmt<W: fmt::Write>(&self, f: &mut fmt::Formatter<W>) -> fmt::Result {
+        let Summary {
+            signals,
+            states,
+            graphs,
+            transitions,
+            suspensions,
+        } = *self;
+        write!(
+            f,
+            "{signals} signals, {states} states, {graphs} graphs, {transitions} transitions, {suspensions} suspensions\n"
+        )
+    }
+}
+
+impl Summary {
+    /// Of the fields of a file.
+    pub fn of_fields(fields: &[Placed<'_>]) -> Summary
+        ensures { result ≡ summary_in (fields_in fields.now) }
+    {
+        Summary {
+            signals: count(fields, Tag::Signal),
+            states: count(fields, Tag::State),
+            graphs: count(fields, Tag::Graph),
+            transitions: count(fields, Tag::Transition),
+            suspensions: count(fields, Tag::Suspension),
+        }
+    }
+
+    /// Of the file that the tables are of.
+    pub fn of_tables(tables: &Tables) -> Summary
+        ensures { result ≡ summary_in (fields_of tables.now) }
+    {
+        Summary {
+            signals: tables.signal_count(),
+            states: tables.state_count(),
+            graphs: tables.graph_count(),
+            transitions: tables.transition_count(),
+            suspensions: tables.suspension_count(),
+        }
+    }
 }
 
 /// How many of the fields have this tag.
 fn count(fields: &[Placed<'_>], tag: Tag) -> usize
     ensures { result ≡ counted (is tag) (fields_in fields.now) }
 {
-    let mut count = 0;
-    for placed in fields {
-        if placed.field.tag() == tag {
-            count += 1;
-        }
-    }
-    count
+    fields.iter().filter(|placed| has_tag(placed, tag)).count()
+}
+
+fn has_tag(placed: &Placed<'_>, tag: Tag) -> bool
+    ensures { result ≡ is tag (stated placed.now.field) }
+{
+    placed.field.tag() == tag
 }

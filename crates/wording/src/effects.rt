@@ -1,4 +1,8 @@
 // Effects as text.
+ghost use Rattle.std.specs.Prelude.{◌≡◌, Some};
+ghost use Rattle.tables.specs.Views.{fields_of};
+ghost use Rattle.wording.specs.Shown.{effects_shown};
+
 use crate::names::SignalName;
 use std::fmt;
 use tables::tables::Tables;
@@ -11,14 +15,30 @@ pub struct Effects<'a> {
 }
 
 impl fmt::Display for Effects<'_> {
+    ghost output = { λ e. Some (effects_shown (fields_of e.tables.now) e.signals.now) };
+
     fn fmt<W: fmt::Write>(&self, f: &mut fmt::Formatter<W>) -> fmt::Result {
-        let tables = self.tables;
-        for (i, signal) in self.signals.iter().enumerate() {
-            let mark = if i == 0 { " / " } else { ", " };
-            let number = usize::from(*signal);
-            let name = SignalName { tables, number };
-            write!(f, "{mark}{name}")?;
+        let [first, others @ ..] = self.signals else {
+            return Ok(());
+        };
+        let name = self.name(*first);
+        write!(f, " / {name}")?;
+        for other in others {
+            let name = self.name(*other);
+            write!(f, ", {name}")?;
         }
         Ok(())
+    }
+}
+
+impl<'a> Effects<'a> {
+    fn name(&self, signal: u8) -> SignalName<'a>
+        ensures tables { result.tables.now ≡ self.now.tables.now }
+        ensures number { result.number ≡ signal }
+    {
+        SignalName {
+            tables: self.tables,
+            number: usize::from(signal),
+        }
     }
 }

@@ -2,7 +2,7 @@
 ghost use Rattle.std.specs.Prelude.{◌≡◌, Some, IsUtf8};
 ghost use Rattle.tables.specs.Rows.{signal_name_of, state_name_of};
 ghost use Rattle.tables.specs.Views.{fields_of};
-ghost use Rattle.wording.specs.Words.{signal_shown, state_shown};
+ghost use Rattle.wording.specs.Shown.{signal_shown, state_shown};
 
 use std::fmt;
 use std::str::from_utf8;

@@ -2,7 +2,7 @@
 ghost use Rattle.std.specs.Prelude.{◌≡◌, ◌≤◌, length};
 
 use crate::names::SignalName;
-use crate::symbols::Symbol;
+use chart::postfix::Symbol;
 use std::fmt;
 use tables::tables::Tables;
 

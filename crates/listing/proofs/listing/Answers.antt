@@ -2,6 +2,7 @@ use Rattle.std.proofs.Common.{string_bytes, sym, subst, rules}
 use Rattle.std.proofs.lemmas.Result.{IfOk-weaker}
 use Rattle.chart.specs.Files.{Passes, Refused}
 use Rattle.chart.specs.Listing.{fields_in}
+use Rattle.chart.specs.Refusals.{code_of}
 use Rattle.verdict.specs.Texts.{Told, passes, refused, Ends, Begins}
 use Rattle.listing.proofs.listing.Goals as goal
 
@@ -15,4 +16,4 @@ pub returns-in-Err-Refused : goal.returns-in-Err-Refused
 returns-in-Err-Refused c =
     let e = c.in-Err-Refused.refusal in
     let why : Refused c.args.bytes.now e = search rules in
-    IfOk-weaker c.refusal_text.result (λ text. Begins e (string_bytes text)) (λ text. Told c.args.bytes.now (string_bytes text)) (λ text begins. refused e why begins) c.refusal_text.ensures
+    IfOk-weaker c.refusal_text.result (λ text. Begins (code_of e) (string_bytes text)) (λ text. Told c.args.bytes.now (string_bytes text)) (λ text begins. refused e why begins) c.refusal_text.ensures
