@@ -32,10 +32,7 @@ impl fmt::Display for Sentence<'_> {
             Refusal::NotAllowed { tag, part, .. } => {
                 let tag = *tag;
                 let part = *part;
-                let name = part_name(part);
-                let field = field(tag);
-                let rule = PartRule { tag, part };
-                write!(f, "The {name} of this {field} is not allowed: {rule}.")
+                NotAllowed { tag, part }.fmt(f)
             }
             Refusal::BeyondLimit { limit, .. } => {
                 let limit = most(*limit);
@@ -48,27 +45,30 @@ impl fmt::Display for Sentence<'_> {
     }
 }
 
-/// What is allowed for a part of a field with this tag.
+/// The part of a field with this tag is not allowed.
 #[derive(Clone, Copy)]
-struct PartRule {
+struct NotAllowed {
     tag: Tag,
     part: Part,
 }
 
-impl fmt::Display for PartRule {
+impl fmt::Display for NotAllowed {
     fn fmt<W: fmt::Write>(&self, f: &mut fmt::Formatter<W>) -> fmt::Result {
+        let part = part_name(self.part);
+        let field = field(self.tag);
+        write!(f, "The {part} of this {field} is not allowed: ")?;
         match self.part {
             Part::Length => {
                 let contents = contents(self.tag);
-                write!(f, "its contents are {contents}")
+                write!(f, "its contents are {contents}.")
             }
             Part::Kind => {
                 let kinds = kinds(self.tag);
-                write!(f, "it is {kinds}")
+                write!(f, "it is {kinds}.")
             }
-            Part::Flag => f.write_str("it is 0, or 1 for an immediate one"),
+            Part::Flag => f.write_str("it is 0, or 1 for an immediate one."),
             Part::Name => f.write_str(
-                "it has 1 to 16 letters, digits and underscores of ASCII, and no digit first",
+                "it has 1 to 16 letters, digits and underscores of ASCII, and no digit first.",
             ),
         }
     }
