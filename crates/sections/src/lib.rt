@@ -1,19 +1,17 @@
 // The sections of a listing: signals, states, transitions and suspensions.
 #![tactic(auto)]
 
+use crate::marks::ChainMarks;
 use crate::outline::StateTree;
-use crate::section::Section;
-use crate::signals::Signals;
-use crate::suspensions::Suspensions;
-use crate::transitions::Transitions;
 use loading::charts::Chart;
 use std::alloc::{AllocError, Global};
+use wording::section::Section;
+use wording::signals::Signals;
+use wording::suspensions::Suspensions;
+use wording::transitions::Transitions;
 
+mod marks;
 mod outline;
-mod section;
-mod signals;
-mod suspensions;
-mod transitions;
 
 /// All sections of a chart.
 pub fn all(heap: Global, chart: &Chart) -> Result<String, AllocError> {
@@ -31,7 +29,10 @@ pub fn all(heap: Global, chart: &Chart) -> Result<String, AllocError> {
     let transitions = Section {
         title: "transitions",
         is_empty: tables.transitions().is_empty(),
-        lines: Transitions { chart },
+        lines: Transitions {
+            tables,
+            marks: ChainMarks { chart },
+        },
     };
     let suspensions = Section {
         title: "suspensions",

@@ -1,12 +1,12 @@
 // The section on signals.
+use crate::names::signal_name;
 use std::fmt;
 use tables::tables::Tables;
-use wording::names::signal_name;
 
 /// A line for each signal.
 #[derive(Clone, Copy)]
-pub(crate) struct Signals<'a> {
-    pub(crate) tables: &'a Tables,
+pub struct Signals<'a> {
+    pub tables: &'a Tables,
 }
 
 impl fmt::Display for Signals<'_> {

@@ -1,14 +1,14 @@
 // The section on suspensions.
+use crate::names::StateName;
+use crate::triggers::Condition;
 use std::fmt;
 use tables::rows::Suspension;
 use tables::tables::Tables;
-use wording::names::StateName;
-use wording::triggers::Condition;
 
 /// A line for each suspension.
 #[derive(Clone, Copy)]
-pub(crate) struct Suspensions<'a> {
-    pub(crate) tables: &'a Tables,
+pub struct Suspensions<'a> {
+    pub tables: &'a Tables,
 }
 
 impl fmt::Display for Suspensions<'_> {

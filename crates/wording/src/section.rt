@@ -3,10 +3,10 @@ use std::fmt;
 
 /// A title, and below it the lines, or `none`.
 #[derive(Drop)]
-pub(crate) struct Section<L: Drop> {
-    pub(crate) title: &'static str,
-    pub(crate) is_empty: bool,
-    pub(crate) lines: L,
+pub struct Section<L: Drop> {
+    pub title: &'static str,
+    pub is_empty: bool,
+    pub lines: L,
 }
 
 impl<L: fmt::Display + Drop> fmt::Display for Section<L> {

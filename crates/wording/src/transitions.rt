@@ -1,28 +1,35 @@
 // The section on transitions.
-use loading::charts::Chart;
+use crate::effects::Effects;
+use crate::names::StateName;
+use crate::triggers::Condition;
 use std::fmt;
 use tables::rows::Transition;
-use wording::effects::Effects;
-use wording::names::StateName;
-use wording::triggers::Condition;
+use tables::tables::Tables;
 
-/// A line for each transition.
-#[derive(Clone, Copy)]
-pub(crate) struct Transitions<'a> {
-    pub(crate) chart: &'a Chart,
+/// What a listing tells of transitions that the tables don't.
+pub trait Marks {
+    /// What stands behind the kind of the transition with this number.
+    fn mark(&self, transition: usize) -> &'static str;
 }
 
-impl fmt::Display for Transitions<'_> {
+/// A line for each transition.
+#[derive(Drop)]
+pub struct Transitions<'a, M: Marks + Drop> {
+    pub tables: &'a Tables,
+    pub marks: M,
+}
+
+impl<M: Marks + Drop> fmt::Display for Transitions<'_, M> {
     fn fmt<W: fmt::Write>(&self, f: &mut fmt::Formatter<W>) -> fmt::Result {
-        let chart = self.chart;
-        let transitions = chart.tables().transitions();
+        let tables = self.tables;
+        let transitions = tables.transitions();
         for (number, transition) in transitions.iter().enumerate() {
-            let priority = count_from(&transitions[..=number], transition.source);
             let line = Line {
-                chart,
+                tables,
                 number,
-                priority,
+                priority: count_from(&transitions[..=number], transition.source),
                 transition,
+                mark: self.marks.mark(number),
             };
             write!(f, "{line}\n")?;
         }
@@ -41,36 +48,36 @@ fn count_from(transitions: &[Transition], source: u16) -> usize {
 /// A transition: its kind, where it leads from and to, when it is taken and what it emits.
 #[derive(Clone, Copy)]
 struct Line<'a> {
-    chart: &'a Chart,
+    tables: &'a Tables,
     number: usize,
-    /// Its rank among the transitions of its source, from 1 on.
+    /// Its place among the transitions of its source, from 1 on.
     priority: usize,
     transition: &'a Transition,
+    mark: &'static str,
 }
 
 impl fmt::Display for Line<'_> {
     fn fmt<W: fmt::Write>(&self, f: &mut fmt::Formatter<W>) -> fmt::Result {
-        let tables = self.chart.tables();
-        let number = self.number;
-        let priority = self.priority;
-        let kind = self.transition.kind;
-        let immediate = if self.transition.immediate {
+        let Line {
+            tables,
+            number,
+            priority,
+            transition,
+            mark,
+        } = *self;
+        let kind = transition.kind;
+        let immediate = if transition.immediate {
             " immediate"
-        } else {
-            ""
-        };
-        let chain = if self.chart.is_chain(number) {
-            " chain"
         } else {
             ""
         };
         let source = StateName {
             tables,
-            number: usize::from(self.transition.source),
+            number: usize::from(transition.source),
         };
         let target = StateName {
             tables,
-            number: usize::from(self.transition.target),
+            number: usize::from(transition.target),
         };
         let condition = Condition {
             tables,
@@ -82,7 +89,7 @@ impl fmt::Display for Line<'_> {
         };
         write!(
             f,
-            "  {number} priority {priority} {kind}{immediate}{chain}: {source} -> {target}{condition}{effects}"
+            "  {number} priority {priority} {kind}{immediate}{mark}: {source} -> {target}{condition}{effects}"
         )
     }
 }
