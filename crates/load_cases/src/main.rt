@@ -1,107 +1,28 @@
-// Runs test cases of loading: each line of standard input is a name, a colon and a file's bytes in hexadecimal; a `#` begins a remark.
-// Bytes stand in parts with commas between them, and `N*` in front of a part repeats it. All files are loaded into one chart, in turn,
-// and for each case one line tells how its file fares.
+// Runs test cases of loading. All files are loaded into one chart, in turn, and for each case one line tells how its file fares.
 #![tactic(auto)]
 
+use case_lines::run;
 use loading::charts::Chart;
 use std::alloc::{AllocError, Global};
 
-fn digit(c: char) -> Option<u8> {
-    match c {
-        '0'..='9' => Some(c as u8 - b'0'),
-        'A'..='F' => Some(c as u8 - b'A' + 10),
-        _ => None,
-    }
-}
-
-/// The bytes that the text writes; none if it is not pairs of digits with blanks around them.
-fn bytes_of(heap: Global, text: &str) -> Result<Option<Vec<u8>>, AllocError> {
-    let mut bytes = Vec::new(heap);
-    let mut high = None;
-    for c in text.chars() {
-        match (digit(c), high) {
-            (Some(low), Some(h)) => {
-                bytes.push(h << 4 | low)?;
-                high = None;
-            }
-            (Some(h), None) => high = Some(h),
-            (None, None) if c == ' ' => {}
-            _ => return Ok(None),
-        }
-    }
-    match high {
-        None => Ok(Some(bytes)),
-        Some(_) => Ok(None),
-    }
-}
-
-/// Adds one part to the file; false if it can't be read.
-fn add_part(heap: Global, file: &mut Vec<u8>, part: &str) -> Result<bool, AllocError> {
-    let (times, text) = match part.split_once('*') {
-        Some((times, text)) => (times.trim().parse::<u32>().ok(), text),
-        None => (Some(1), part),
-    };
-    let (Some(times), Some(bytes)) = (times, bytes_of(heap, text)?) else {
-        return Ok(false);
-    };
-    for _ in 0..times {
-        file.extend_from_slice(&bytes)?;
-    }
-    Ok(true)
-}
-
-fn file_of(heap: Global, text: &str) -> Result<Option<Vec<u8>>, AllocError> {
-    let mut file = Vec::new(heap);
-    for part in text.split(',') {
-        if !add_part(heap, &mut file, part)? {
-            return Ok(None);
-        }
-    }
-    Ok(Some(file))
-}
-
-fn outcome(heap: Global, chart: &mut Chart, file: &[u8]) -> Result<String, AllocError> {
+fn report(heap: Global, chart: &mut Chart, name: &str, file: &[u8]) -> Result<String, AllocError> {
     match chart.load(file) {
         Ok(()) => {
             let count = chart.tables().file().field_count();
-            format!(in heap; "loaded, {count} fields")
+            format!(in heap; "{name}: loaded, {count} fields")
         }
         Err(refusal) => {
             let number = refusal.number();
             let layer = refusal.layer();
             let place = refusal.place();
-            format!(in heap; "refused {number} layer {layer} at {place}")
+            format!(in heap; "{name}: refused {number} layer {layer} at {place}")
         }
     }
-}
-
-fn answer(heap: Global, chart: &mut Chart, line: &str) -> Result<Option<String>, AllocError> {
-    let case = match line.split_once('#') {
-        Some((case, _)) => case,
-        None => line,
-    };
-    let Some((name, text)) = case.split_once(':') else {
-        return Ok(None);
-    };
-    let told = match file_of(heap, text)? {
-        Some(file) => outcome(heap, chart, &file)?,
-        None => format!(in heap; "not a case")?,
-    };
-    Ok(Some(format!(in heap; "{name}: {told}")?))
-}
-
-fn run(rt: &HostRuntime) -> anyhow::Result<()> {
-    let heap = rt.alloc();
-    let mut chart = Chart::new(heap)?;
-    for line in rt.lines(heap) {
-        let line = line?;
-        if let Some(told) = answer(heap, &mut chart, line.as_str())? {
-            rt.println(told)?;
-        }
-    }
-    Ok(())
 }
 
 fn main(rt: HostRuntime) -> anyhow::Result<()> {
-    run(&rt)
+    let heap = rt.alloc();
+    let mut chart = Chart::new(heap)?;
+    run(&rt, |name, file| report(heap, &mut chart, name, file))?;
+    Ok(())
 }

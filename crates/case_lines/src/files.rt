@@ -1,0 +1,73 @@
+// The bytes of a case's file.
+use std::alloc::{AllocError, Global};
+use thiserror::Error;
+
+/// Why there are no bytes.
+#[derive(Debug, Drop, Error)]
+pub(crate) enum CaseError {
+    /// The text is not one that a case may have.
+    #[error("not a case")]
+    NotACase,
+    #[error(transparent)]
+    Memory(#[from(alloc)] AllocError),
+}
+
+pub(crate) fn file_of(heap: Global, text: &str) -> Result<Vec<u8>, CaseError> {
+    let mut file = Vec::new(heap);
+    for part in text.split(',') {
+        add_part(heap, &mut file, part)?;
+    }
+    Ok(file)
+}
+
+fn add_part(heap: Global, file: &mut Vec<u8>, part: &str) -> Result<(), CaseError> {
+    let (times, text) = repeated(part)?;
+    let bytes = bytes_of(heap, text)?;
+    for _ in 0..times {
+        file.extend_from_slice(bytes.as_slice())?;
+    }
+    Ok(())
+}
+
+/// How often a part stands in the file, and its bytes as text.
+fn repeated(part: &str) -> Result<(u32, &str), CaseError> {
+    match part.split_once('*') {
+        Some((times, text)) => {
+            let times = times.trim().parse().map_err(|_| CaseError::NotACase)?;
+            Ok((times, text))
+        }
+        None => Ok((1, part)),
+    }
+}
+
+/// The bytes of pairs of digits, with blanks between the pairs.
+fn bytes_of(heap: Global, text: &str) -> Result<Vec<u8>, CaseError> {
+    let mut bytes = Vec::new(heap);
+    for word in text.split(' ') {
+        add_word(&mut bytes, word.as_bytes())?;
+    }
+    Ok(bytes)
+}
+
+fn add_word(bytes: &mut Vec<u8>, word: &[u8]) -> Result<(), CaseError> {
+    for pair in word.chunks(2) {
+        bytes.push(byte_of(pair).ok_or(CaseError::NotACase)?)?;
+    }
+    Ok(())
+}
+
+fn byte_of(pair: &[u8]) -> Option<u8> {
+    match pair {
+        [high, low] => Some(digit(*high)? << 4 | digit(*low)?),
+        _ => None,
+    }
+}
+
+/// The value of a hexadecimal digit; letters are capitals.
+fn digit(c: u8) -> Option<u8> {
+    match c {
+        b'0'..=b'9' => Some(c - b'0'),
+        b'A'..=b'F' => Some(c - b'A' + 10),
+        _ => None,
+    }
+}
