@@ -15,10 +15,8 @@ fn outcome(heap: Global, file: &[u8]) -> Result<String, AllocError> {
             format!(in heap; "{count} fields")
         }
         Err(ReadError::Refused(refusal)) => {
-            let number = refusal.number();
-            let layer = refusal.layer();
-            let place = refusal.place();
-            format!(in heap; "refused {number} layer {layer} at {place}")
+            let code = refusal.code();
+            format!(in heap; "{code}")
         }
         Err(ReadError::Memory(error)) => Err(error),
     }
