@@ -1,49 +1,10 @@
--- What a search over the numbers below n finds, and what calls at these numbers make.
-use Rattle.std.proofs.Common.{◌≡◌, ℕ, zero, suc, ◌+◌, ◌-◌, ◌<◌, ◌≤◌, Bool, true, false, cond, ◌||◌, List, get_or, Some, None, Option, unwrap_or, sym, refl, ap, ◌∙◌, subst, arith}
+-- What calls at the numbers below n make.
+use Rattle.std.proofs.Common.{◌≡◌, ℕ, zero, suc, ◌+◌, ◌<◌, ◌≤◌, Bool, false, List, get_or, sym, ap, ◌∙◌, subst, arith}
 use Rattle.std.specs.Array.{IsFromFnResult, IsFromFnResultFrom}
 use Rattle.std.specs.Fn.{Called}
-use Rattle.std.specs.List.{find, range_with_len}
-use Rattle.std.specs.Option.{option_map}
 use Rattle.std.proofs.lemmas.List.{get_or_past}
 use denote.Param.Members.{Mut}
 use native.Mathlib.Decide.{ℕ_discrete, dec_lt}
-use Rattle.validity.specs.Ranges.{any_of, least_of, or_else}
-use Rattle.validity.proofs.Bools.{neither}
-
-find_last : (p : ℕ → Bool) (a n j : ℕ) → a + n ≡ j → find p (range_with_len a (suc n)) ≡ or_else (find p (range_with_len a n)) (cond (p j) (Some j) None)
-find_last p a zero j e = let h : a ≡ j = omega arith in ap (λ k. cond (p k) (Some k) None) h
-find_last p a (suc n) j e = go (p a) (find_last p (a + 1) n j (omega arith))
-  where
-    go : (b : Bool) → find p (range_with_len (a + 1) (suc n)) ≡ or_else (find p (range_with_len (a + 1) n)) (cond (p j) (Some j) None) → cond b (Some a) (find p (range_with_len (a + 1) (suc n))) ≡ or_else (cond b (Some a) (find p (range_with_len (a + 1) n))) (cond (p j) (Some j) None)
-    go true h = refl
-    go false h = h
-
-find_below : (n : ℕ) (p : ℕ → Bool) → find p (range_with_len 0 n) ≡ cond (any_of n p) (Some (least_of n p)) None
-find_below zero p = refl
-find_below (suc n) p = find_last p 0 n n (omega arith) ∙ ap (λ o. or_else o (cond (p n) (Some n) None)) (find_below n p) ∙ go (any_of n p)
-  where
-    go : (b : Bool) → or_else (cond b (Some (least_of n p)) None) (cond (p n) (Some n) None) ≡ cond (b || p n) (Some (cond b (least_of n p) n)) None
-    go true = refl
-    go false = refl
-
-same_option : (o : Option ℕ) → option_map (λ x. x) o ≡ o
-same_option None = refl
-same_option (Some x) = refl
-
--- where none passes, the last
-least_end : (n : ℕ) (p : ℕ → Bool) → any_of n p ≡ false → n - 1 ≡ least_of n p
-least_end zero p h = refl
-least_end (suc n) p h =
-    let e : suc n - 1 ≡ n = omega arith in
-    e ∙ sym (ap (λ b. cond b (least_of n p) n) (neither (any_of n p) (p n) h).0)
-
--- what a search finds, or the last where it finds none
-pub is_least_of : (n : ℕ) (p : ℕ → Bool) (o : Option ℕ) → option_map (λ x. x) o ≡ find p (range_with_len 0 n) → unwrap_or o (n - 1) ≡ least_of n p
-is_least_of n p o h = ap (λ o. unwrap_or o (n - 1)) (sym (same_option o) ∙ h ∙ find_below n p) ∙ go (any_of n p) refl
-  where
-    go : (b : Bool) → any_of n p ≡ b → unwrap_or (cond b (Some (least_of n p)) None) (n - 1) ≡ least_of n p
-    go true e = refl
-    go false e = least_end n p e
 
 module _ {F B : Type 0} (g : Mut F (ℕ × Unit {0}) B) (f : F) (ys : List B) (h : ℕ → B) (says : (i : ℕ) (y : B) (q : F) → Called g f (i, tt) y q → (q ≡ f) × (y ≡ h i)) (e : B) where
   made_from : (n i : ℕ) → IsFromFnResultFrom g f ys i n → (k : ℕ) → i ≤ k → k < i + n → get_or ys k e ≡ h k

@@ -4,7 +4,7 @@ use Rattle.std.proofs.lemmas.Iterator.Search.{find_from_yields_List}
 use Rattle.validity.specs.Ranges.{least_of}
 use Rattle.validity.specs.Tables.{is_in}
 use Rattle.tables.specs.Views.{fields_of}
-use Rattle.chains.proofs.Found.{is_least_of}
+use Rattle.validity.proofs.Ranged.{is_least_of}
 use Rattle.chains.proofs.endings.initial_state.Goals as goal
 
 pub returns : goal.returns

@@ -6,7 +6,8 @@ use Rattle.validity.specs.Tables.{suspension_index, suspended_by}
 use Rattle.tables.specs.declared.rows.Span.{Span}
 use Rattle.tables.specs.Rows.{trigger_span_at}
 use Rattle.tables.specs.Views.{fields_of}
-use Rattle.derived.proofs.Found.{is_found, given}
+use Rattle.validity.proofs.Ranged.{is_found}
+use Rattle.derived.proofs.Found.{given}
 use Rattle.derived.proofs.facts.suspension_of.Goals as goal
 
 pub returns : goal.returns

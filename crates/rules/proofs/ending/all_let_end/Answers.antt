@@ -1,5 +1,5 @@
 use Rattle.std.proofs.Common.{rules, tests}
-use Rattle.rules.proofs.Searches.{all_found}
+use Rattle.validity.proofs.Ranged.{all_found}
 use Rattle.rules.proofs.ending.all_let_end.Goals as goal
 
 pub returns : goal.returns

@@ -1,5 +1,5 @@
 use Rattle.std.proofs.Common.{rules, tests, refl}
-use Rattle.rules.proofs.Searches.{any_found}
+use Rattle.validity.proofs.Ranged.{any_found}
 use Rattle.rules.proofs.ends.stands_behind.Goals as goal
 
 pub returns : goal.returns

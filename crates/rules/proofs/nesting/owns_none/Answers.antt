@@ -1,5 +1,5 @@
 use Rattle.std.proofs.Common.{rules, tests, not, ap}
-use Rattle.rules.proofs.Searches.{any_found}
+use Rattle.validity.proofs.Ranged.{any_found}
 use Rattle.rules.proofs.nesting.owns_none.Goals as goal
 
 pub returns : goal.returns

@@ -1,6 +1,6 @@
 use Rattle.std.proofs.Common.{length, rules, tests, ap, ◌∙◌}
 use Rattle.tables.specs.Views.{fields_in}
-use Rattle.rules.proofs.Searches.{first_found}
+use Rattle.validity.proofs.Ranged.{first_found}
 use Rattle.rules.proofs.rule.first_invalid.Goals as goal
 
 pub returns : goal.returns
