@@ -37,6 +37,7 @@ impl<P: Part> Column<P> {
         ensures { RowsOf P.makes (P.Part.row (fields_in file.now)) (fields_in file.now) self.new.rows.items }
     {
         self.rows.clear();
+        // By index: a loop over a chain with a closure has no proof yet in a generic function.
         for index in 0..file.field_count() {
             if let Some(row) = row_at(file, index) {
                 self.rows.push_reserved(row);

@@ -28,13 +28,14 @@ pub(crate) trait Part: Copy {
     /// The row that stands for nothing.
     const ZEROS: Self;
 
-    /// No file makes more such rows.
+    /// How many such rows a file makes at most.
     const MOST: usize;
 
     /// The row of the field, if it makes one.
     fn of(field: &Indexed<'_>) -> Option<Self>
         ensures { result ≡ (if makes (field_at (fields_in field.now.file.now) field.now.index) then Some (row (fields_in field.now.file.now) field.now.index) else None) };
 
+    /// What is promised of `MOST`: of the fields of a file no more make such rows.
     ghost few: { (fs : List AnyField) → is_row fs ≡ true → length (encode_all fs) ≤ 16384 → count makes fs ≤ MOST };
 }
 
