@@ -7,10 +7,14 @@ use Rattle.exports.specs.declared.Outcome.{Outcome}
 abbrev pub no_memory : Outcome
 no_memory = record { number = 255; layer = 0; place = 0 }
 
--- number, layer and place of the refusal; zeros if there is none
+-- number, layer and place of the refusal
+abbrev pub refused : Refusal → Outcome
+refused e = record { number = number_of e; layer = layer_of e; place = place_of e }
+
+-- the refusal, or zeros if there is none
 abbrev pub told : Result (Unit {0}) Refusal → Outcome
 told (Ok u) = record { number = 0; layer = 0; place = 0 }
-told (Err e) = record { number = number_of e; layer = layer_of e; place = place_of e }
+told (Err e) = refused e
 
 -- how many of so many loads are accepted
 abbrev pub accepted : ℕ → Result (Unit {0}) Refusal → ℕ

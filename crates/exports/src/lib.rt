@@ -3,18 +3,20 @@
 
 ghost use Rattle.std.specs.Prelude.{◌≡◌, ◌⊎◌};
 ghost use Rattle.loading.specs.Loading.{loading};
-ghost use Rattle.exports.specs.Told.{no_memory, told, accepted};
+ghost use Rattle.exports.specs.Told.{no_memory, refused, told, accepted};
 
 use loading::charts::Chart;
+use loading::refusals::Refusal;
 use std::alloc::Global;
 
-// In place of a refusal's number: there was no memory for a chart.
+// In place of a refusal's number: there was no memory for a chart. A number, since the C interface has no enum with fields.
 const NO_MEMORY: u8 = 255;
 
-// In place of a count of loads: there was no memory for a chart. A count is below.
+// In place of a count of loads: there was no memory for a chart. A count is below. A number, since the C interface has no Option.
 const NOT_COUNTED: u64 = 4_294_967_296;
 
 /// How a file fares: the number, layer and place of its refusal, or zeros if it is loaded. The number 255 says that there was no memory.
+// Zeros, since the C interface has no Result.
 #[derive(Clone, Copy)]
 #[repr(C)]
 pub struct Outcome {
@@ -28,6 +30,18 @@ const LOADED: Outcome = Outcome {
     layer: 0,
     place: 0,
 };
+
+impl From<Refusal> for Outcome {
+    ghost from_gives = { λ refusal outcome. outcome ≡ refused refusal };
+
+    fn from(refusal: Refusal) -> Outcome {
+        Outcome {
+            number: refusal.number(),
+            layer: refusal.layer(),
+            place: refusal.place(),
+        }
+    }
+}
 
 /// How the file fares.
 #[unsafe(no_mangle)]
@@ -61,11 +75,7 @@ fn load(chart: &mut Chart, bytes: &[u8]) -> Outcome
 {
     match chart.load(bytes) {
         Ok(()) => LOADED,
-        Err(refusal) => Outcome {
-            number: refusal.number(),
-            layer: refusal.layer(),
-            place: refusal.place(),
-        },
+        Err(refusal) => Outcome::from(refusal),
     }
 }
 
@@ -73,11 +83,5 @@ fn load(chart: &mut Chart, bytes: &[u8]) -> Outcome
 fn count_loads(chart: &mut Chart, bytes: &[u8], times: u32) -> u64
     ensures { result ≡ accepted times (loading bytes.now) }
 {
-    let mut count = 0;
-    for _turn in 0..times {
-        if chart.load(bytes).is_ok() {
-            count += 1;
-        }
-    }
-    count
+    (0..times).filter(|_turn| chart.load(bytes).is_ok()).count() as u64
 }
