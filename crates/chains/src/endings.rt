@@ -14,6 +14,7 @@ use tables::tables::Tables;
 #[derive(Drop)]
 pub(crate) struct Endings<'a> {
     tables: &'a Tables,
+    // What the chain transitions lead to; only the invariant speaks of it.
     reach: &'a Reach,
     // By number of the graph, whether it may end.
     ends: [bool; 128],

@@ -58,7 +58,7 @@ impl Chains {
     }
 }
 
-// Of each number, whether it is a chain transition by what those marked so far lead to.
+// By number of the transition, whether it is a chain transition by what those marked so far lead to.
 fn chain_marks(tables: &Tables, reach: &Reach) -> [bool; 512]
     ensures { (t : ℕ) → slice_index_or result t false ≡ is_chain_by (fields_of tables.now) (told reach.now) t }
 {
