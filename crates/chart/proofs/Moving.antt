@@ -1,8 +1,10 @@
 -- What the reader's next call finds, from where it stands.
-use Rattle.std.proofs.Common.{◌≡◌, ℕ, ◌+◌, ◌/◌, ◌%◌, ◌<◌, ◌≤◌, true, List, [], ◌∷◌, ◌++◌, reverse, length, drop, Some, None, Ok, Err, Option, Result, sym, refl, ap, ◌∙◌, subst}
+use Rattle.std.proofs.Common.{◌≡◌, ℕ, ◌+◌, ◌-◌, ◌/◌, ◌%◌, ◌<◌, ◌≤◌, true, List, [], ◌∷◌, ◌++◌, reverse, length, take, drop, Some, None, Ok, Err, Option, Result, sym, refl, ap, ◌∙◌, subst}
+use borrow.Author.Rules.{part_to_end}
 use Rattle.chart.specs.declared.kinds.Tag.{Tag}
 use Rattle.chart.specs.declared.limits.Counts.{Counts}
 use Rattle.chart.specs.declared.order.Stage.{Stage}
+use Rattle.chart.specs.declared.reader.Reader.{Reader}
 use Rattle.chart.specs.declared.refusals.Limit.{Limit}
 use Rattle.chart.specs.declared.refusals.Refusal.{Refusal}
 use Rattle.chart.specs.declared.refusals.Refusal.TheVariants.{CutShort, BeyondLimit}
@@ -41,7 +43,35 @@ beyond_ok : (p : ℕ) (r : Result Counts Limit) (c : Counts) → Ok c ≡ or_bey
 beyond_ok p (Ok d) c h = ap Ok (ok_same c d h)
 beyond_ok p (Err l) c h = err_ok (BeyondLimit p l) c (sym h)
 
-module _ (b : List ℕ) (at : ℕ) (stage : Stage) (counts : Counts) (pos : Position b at stage counts) (rest : List ℕ) (is : rest ≡ drop at b) (sized : Sized b) where
+-- the bytes that are left, as the code cuts them off
+abbrev pub left : Reader → List ℕ
+left r = take (length r.bytes.now - r.at) (drop r.at r.bytes.now)
+
+pub left_is : (r : Reader) → left r ≡ drop r.at r.bytes.now
+left_is r = part_to_end r.bytes.now r.at
+
+module _ (r : Reader) (sized : Sized r.bytes.now) where
+  abbrev b : List ℕ
+  b = r.bytes.now
+
+  abbrev at : ℕ
+  at = r.at
+
+  abbrev stage : Stage
+  stage = r.stage
+
+  abbrev counts : Counts
+  counts = r.counts
+
+  abbrev pos : Position r.bytes.now r.at r.stage r.counts
+  pos = r.position
+
+  abbrev rest : List ℕ
+  rest = left r
+
+  abbrev is : left r ≡ drop r.at r.bytes.now
+  is = left_is r
+
   abbrev front : List Field
   front = reverse (before b at)
 
@@ -77,9 +107,9 @@ module _ (b : List ℕ) (at : ℕ) (stage : Stage) (counts : Counts) (pos : Posi
           let l = beyond_err at (raised counts f) e h in
           subst (Refused b) (sym l.2) (limit_refused_by l.0 l.1)
 
-      module _ (more : Counts) (within : Ok more ≡ or_beyond at (raised counts f)) where
+      module _ (more : Counts) (less : Ok more ≡ or_beyond at (raised counts f)) where
         more_is : (exceeded (added counts f) ≡ None) × (more ≡ added counts f)
-        more_is = unless_ok (exceeded (added counts f)) (added counts f) more (beyond_ok at (raised counts f) more within)
+        more_is = unless_ok (exceeded (added counts f)) (added counts f) more (beyond_ok at (raised counts f) more less)
 
         fits : Written (tag_of f) c f × (tag_code (tag_of f) ≡ code) × (admits stage (tag_of f) ≡ true)
         fits = judged_written (admits stage) code c f contents_bytes good_field
