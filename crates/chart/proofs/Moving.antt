@@ -1,6 +1,8 @@
 -- What the reader's next call finds, from where it stands.
 use Rattle.std.proofs.Common.{◌≡◌, ℕ, ◌+◌, ◌-◌, ◌/◌, ◌%◌, ◌<◌, ◌≤◌, true, List, [], ◌∷◌, ◌++◌, reverse, length, take, drop, Some, None, Ok, Err, Option, Result, sym, refl, ap, ◌∙◌, subst}
 use borrow.Author.Rules.{part_to_end}
+use Rattle.std.specs.Result.{IsErrAnd}
+use Rattle.chart.specs.declared.fields.Placed.{Placed}
 use Rattle.chart.specs.declared.kinds.Tag.{Tag}
 use Rattle.chart.specs.declared.limits.Counts.{Counts}
 use Rattle.chart.specs.declared.order.Stage.{Stage}
@@ -16,7 +18,7 @@ use Rattle.chart.specs.Limits.{counts_of, exceeded, added, unless, raised}
 use Rattle.chart.specs.Decoding.{word_at}
 use Rattle.chart.specs.Files.{is_row, Sized, piece, Refused, cut_short}
 use Rattle.chart.specs.Pieces.{Whole}
-use Rattle.chart.specs.Progress.{before, or_beyond, Position}
+use Rattle.chart.specs.Progress.{before, or_beyond, Position, Next}
 use Rattle.chart.specs.Reading.{judge}
 use Rattle.chart.specs.Stages.{admits, after, stage_of}
 use Rattle.chart.proofs.Bytes.{byte_rest, bytes_front, drop_bytes}
@@ -42,6 +44,11 @@ beyond_err p (Err l) e h = (l, refl, err_same e (BeyondLimit p l) h)
 beyond_ok : (p : ℕ) (r : Result Counts Limit) (c : Counts) → Ok c ≡ or_beyond p r → Ok c ≡ r
 beyond_ok p (Ok d) c h = ap Ok (ok_same c d h)
 beyond_ok p (Err l) c h = err_ok (BeyondLimit p l) c (sym h)
+
+-- a refusal that is handed on
+pub refused_next : (r : Reader) (o : Result (Option Placed) Refusal) (d : Refusal) → IsErrAnd o (λ e. e ≡ d) → Refused r.bytes.now d → Next r.bytes.now r.at o r.at
+refused_next r (Ok p) d h f = absurd h
+refused_next r (Err e) d h f = (subst (Refused r.bytes.now) (sym h) f, refl)
 
 -- the bytes that are left, as the code cuts them off
 abbrev pub left : Reader → List ℕ
