@@ -1,9 +1,10 @@
 -- One round of the closure: what leads to k leads where k leads.
-use Rattle.std.proofs.Common.{◌≡◌, ℕ, suc, ◌+◌, ◌<◌, ◌≤◌, Bool, ◌&&◌, ◌||◌, List, length, sym, ap, ◌∙◌, ap₂, arith}
+use Rattle.std.proofs.Common.{◌≡◌, ℕ, suc, ◌+◌, ◌<◌, ◌≤◌, Bool, true, false, ◌&&◌, ◌||◌, List, length, get_or, set, sym, ap, ◌∙◌, ap₂, arith, length-set, get_or-set_other, get_or-set_same}
+use native.Mathlib.Decide.{ℕ_discrete}
 use Rattle.std.proofs.lemmas.Bool.Decides.{nat_tests}
 use Rattle.validity.specs.Closure.{through, leads}
 use Rattle.validity.proofs.Closed.{t_zero, t_suc, leads_inside, leads_same}
-use Rattle.closure.specs.Rows.{in_row, holds, among, OnlyBelow, told}
+use Rattle.closure.specs.Rows.{in_row, holds, among, OnlyBelow, empty, told}
 use Rattle.closure.specs.declared.row.Row.{Row}
 use Rattle.closure.specs.declared.Reach.{Reach}
 
@@ -17,6 +18,39 @@ pub record Amid (was rows : List Row) (k x : ℕ) (by : Row) : Type 0 where
   pub by_is : (y : ℕ) → in_row by y ≡ holds was k y
   pub done : (i y : ℕ) → i < x → holds rows i y ≡ (holds was i y || holds was i k && holds was k y)
   pub rest : (i y : ℕ) → x ≤ i → holds rows i y ≡ holds was i y
+
+module _ (was rows : List Row) (k x : ℕ) (by : Row) (a : Amid was rows k x by) where
+  -- x does not lead to k
+  pub kept : holds rows x k ≡ false → Amid was rows k (x + 1) by
+  kept h = record {
+    long = a.long;
+    by_is = a.by_is;
+    done = λ i y l.
+        let before = a.done i y in
+        let same = a.rest i y in
+        let same_k = a.rest i k in
+        grind arith;
+    rest = λ i y l. a.rest i y (omega arith);
+  }
+
+  -- it does
+  pub joined : (new : Row) → x < 256 → holds rows x k ≡ true → ((y : ℕ) → in_row new y ≡ (holds rows x y || in_row by y)) → Amid was (set rows x new) k (x + 1) by
+  joined new l h j = record {
+    long = length-set rows x new ∙ a.long;
+    by_is = a.by_is;
+    done = λ i y li.
+        elim (ℕ_discrete i x) [
+          | yes e ↦
+              let here = ap (λ m. get_or (set rows x new) m empty) e ∙ get_or-set_same rows x new empty (omega (arith, a.long)) in
+              let union = j y in
+              let beyond = a.by_is y in
+              let same = a.rest i y in
+              let same_k = a.rest i k in
+              grind arith
+          | no ne ↦ ap (λ r. in_row r y) (get_or-set_other rows x i new empty ne) ∙ a.done i y (omega arith)
+        ];
+    rest = λ i y li. ap (λ r. in_row r y) (get_or-set_other rows x i new empty (λ e. omega arith)) ∙ a.rest i y (omega arith);
+  }
 
 -- before round k
 abbrev pub Before : List Row → List Row → ℕ → ℕ → Type 0
