@@ -20,8 +20,8 @@ pub(crate) fn check_size(bytes: &[u8]) -> Result<(), Refusal>
 {
     match bytes.len() {
         0 => Err(Refusal::Empty),
-        1..=LONGEST => Ok(()),
-        length => Err(Refusal::TooLong { length }),
+        length if length > LONGEST => Err(Refusal::TooLong { length }),
+        _ => Ok(()),
     }
 }
 
