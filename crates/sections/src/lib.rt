@@ -18,26 +18,20 @@ pub fn all(heap: Global, chart: &Chart) -> Result<String, AllocError> {
     let tables = chart.tables();
     let signals = Section {
         title: "signals",
-        is_empty: tables.signals().is_empty(),
-        lines: Signals { tables },
+        lines: (!tables.signals().is_empty()).then_some(Signals { tables }),
     };
     let states = Section {
         title: "states",
-        is_empty: tables.states().is_empty(),
-        lines: StateTree::root(chart),
+        lines: (!tables.states().is_empty()).then_some(StateTree::root(chart)),
     };
+    let marks = ChainMarks { chart };
     let transitions = Section {
         title: "transitions",
-        is_empty: tables.transitions().is_empty(),
-        lines: Transitions {
-            tables,
-            marks: ChainMarks { chart },
-        },
+        lines: (!tables.transitions().is_empty()).then_some(Transitions { tables, marks }),
     };
     let suspensions = Section {
         title: "suspensions",
-        is_empty: tables.suspensions().is_empty(),
-        lines: Suspensions { tables },
+        lines: (!tables.suspensions().is_empty()).then_some(Suspensions { tables }),
     };
     format!(in heap; "{signals}{states}{transitions}{suspensions}")
 }

@@ -81,10 +81,8 @@ impl<'a> StateTree<'a> {
         let initial = if self.is_initial { "initial " } else { "" };
         let kind = tables.kind_of(state);
         let name = state_name(tables, state);
-        let effects = Effects {
-            tables,
-            signals: tables.sustained_by(state),
-        };
+        let signals = tables.sustained_by(state);
+        let effects = Effects { tables, signals };
         write!(
             f,
             "{indent}  {state} {initial}{kind} {name}, depth {depth}{effects}\n"

@@ -1,5 +1,5 @@
 // Effects as text.
-ghost use Rattle.std.specs.Prelude.{◌≡◌, Some};
+ghost use Rattle.std.specs.Prelude.{Some};
 ghost use Rattle.tables.specs.Views.{fields_of};
 ghost use Rattle.wording.specs.Shown.{effects_shown};
 
@@ -21,24 +21,12 @@ impl fmt::Display for Effects<'_> {
         let [first, others @ ..] = self.signals else {
             return Ok(());
         };
-        let name = self.name(*first);
+        let name = SignalName::of(self.tables, *first);
         write!(f, " / {name}")?;
         for other in others {
-            let name = self.name(*other);
+            let name = SignalName::of(self.tables, *other);
             write!(f, ", {name}")?;
         }
         Ok(())
-    }
-}
-
-impl<'a> Effects<'a> {
-    fn name(&self, signal: u8) -> SignalName<'a>
-        ensures tables { result.tables.now ≡ self.now.tables.now }
-        ensures number { result.number ≡ signal }
-    {
-        SignalName {
-            tables: self.tables,
-            number: usize::from(signal),
-        }
     }
 }

@@ -36,6 +36,16 @@ pub struct SignalName<'a> {
     pub number: usize,
 }
 
+impl<'a> SignalName<'a> {
+    pub(crate) fn of(tables: &'a Tables, signal: u8) -> SignalName<'a>
+        ensures tables { result.tables.now ≡ tables.now }
+        ensures number { result.number ≡ signal }
+    {
+        let number = usize::from(signal);
+        SignalName { tables, number }
+    }
+}
+
 impl fmt::Display for SignalName<'_> {
     ghost output = { λ s. Some (signal_shown (fields_of s.tables.now) s.number) };
 
@@ -54,6 +64,16 @@ impl fmt::Display for SignalName<'_> {
 pub struct StateName<'a> {
     pub tables: &'a Tables,
     pub number: usize,
+}
+
+impl<'a> StateName<'a> {
+    pub(crate) fn of(tables: &'a Tables, state: u16) -> StateName<'a>
+        ensures tables { result.tables.now ≡ tables.now }
+        ensures number { result.number ≡ state }
+    {
+        let number = usize::from(state);
+        StateName { tables, number }
+    }
 }
 
 impl fmt::Display for StateName<'_> {

@@ -5,18 +5,16 @@ use std::fmt;
 #[derive(Drop)]
 pub struct Section<L: Drop> {
     pub title: &'static str,
-    pub is_empty: bool,
-    pub lines: L,
+    pub lines: Option<L>,
 }
 
 impl<L: fmt::Display + Drop> fmt::Display for Section<L> {
     fn fmt<W: fmt::Write>(&self, f: &mut fmt::Formatter<W>) -> fmt::Result {
         let title = self.title;
         write!(f, "{title}:\n")?;
-        if self.is_empty {
-            f.write_str("  none\n")
-        } else {
-            self.lines.fmt(f)
+        match &self.lines {
+            Some(lines) => lines.fmt(f),
+            None => f.write_str("  none\n"),
         }
     }
 }

@@ -32,8 +32,7 @@ struct Line<'a> {
 impl fmt::Display for Line<'_> {
     fn fmt<W: fmt::Write>(&self, f: &mut fmt::Formatter<W>) -> fmt::Result {
         let tables = self.tables;
-        let number = usize::from(self.suspension.state);
-        let state = StateName { tables, number };
+        let state = StateName::of(tables, self.suspension.state);
         let trigger = self.suspension.trigger.map(|span| tables.bytes(span));
         let condition = Condition { tables, trigger };
         write!(f, "  {state}{condition}")

@@ -71,22 +71,12 @@ impl fmt::Display for Line<'_> {
         } else {
             ""
         };
-        let source = StateName {
-            tables,
-            number: usize::from(transition.source),
-        };
-        let target = StateName {
-            tables,
-            number: usize::from(transition.target),
-        };
-        let condition = Condition {
-            tables,
-            trigger: tables.trigger_of(number),
-        };
-        let effects = Effects {
-            tables,
-            signals: tables.emitted_by(number),
-        };
+        let source = StateName::of(tables, transition.source);
+        let target = StateName::of(tables, transition.target);
+        let trigger = tables.trigger_of(number);
+        let condition = Condition { tables, trigger };
+        let signals = tables.emitted_by(number);
+        let effects = Effects { tables, signals };
         write!(
             f,
             "  {number} priority {priority} {kind}{immediate}{mark}: {source} -> {target}{condition}{effects}"

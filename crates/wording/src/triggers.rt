@@ -106,13 +106,7 @@ impl fmt::Display for Infix<'_> {
                 self.part(operands, Binding::Tight).fmt(f)?;
             }
             Symbol::Yes => f.write_str("yes")?,
-            Symbol::Signal(signal) => {
-                let name = SignalName {
-                    tables: self.tables,
-                    number: usize::from(signal),
-                };
-                write!(f, "{name}")?;
-            }
+            Symbol::Signal(signal) => SignalName::of(self.tables, signal).fmt(f)?,
         }
         if is_loose {
             f.write_str(")")?;
