@@ -15,8 +15,8 @@ summary_line s t g r u =
     decimal s ++ (codes " signals, " ++ (decimal t ++ (codes " states, " ++ (decimal g ++ (codes " graphs, "
     ++ (decimal r ++ (codes " transitions, " ++ (decimal u ++ codes " suspensions\n"))))))))
 
-abbrev pub summary_of : List Field → List ℕ
-summary_of fs = summary_line (count (is Signal) fs) (count (is State) fs) (count (is Graph) fs) (count (is Transition) fs) (count (is Suspension) fs)
+abbrev pub summary_text : Summary → List ℕ
+summary_text s = summary_line s.signals s.states s.graphs s.transitions s.suspensions
 
 -- how many of each there are among these fields
 abbrev pub summary_in : List Field → Summary
@@ -27,6 +27,9 @@ summary_in fs = record {
   transitions = count (is Transition) fs;
   suspensions = count (is Suspension) fs;
 }
+
+abbrev pub summary_of : List Field → List ℕ
+summary_of fs = summary_text (summary_in fs)
 
 -- the first line of a refusal with this code
 abbrev pub refusal_line : RefusalCode → List ℕ

@@ -5,7 +5,7 @@ ghost use Rattle.chart.specs.Limits.{count as counted};
 ghost use Rattle.chart.specs.Listing.{fields_in};
 ghost use Rattle.chart.specs.Stated.{stated};
 ghost use Rattle.tables.specs.Views.{fields_of};
-ghost use Rattle.verdict.specs.Texts.{summary_line, summary_in};
+ghost use Rattle.verdict.specs.Texts.{summary_text, summary_in};
 
 use chart::fields::Placed;
 use chart::kinds::Tag;
@@ -23,7 +23,7 @@ pub struct Summary {
 }
 
 impl fmt::Display for Summary {
-    ghost output = { λ s. Some (summary_line s.signals s.states s.graphs s.transitions s.suspensions) };
+    ghost output = { λ s. Some (summary_text s) };
 
     fn fmt<W: fmt::Write>(&self, f: &mut fmt::Formatter<W>) -> fmt::Result {
         let Summary {
