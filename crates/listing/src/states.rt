@@ -1,0 +1,110 @@
+// The section on states.
+use crate::outline::{Item, Node, Outline};
+use std::fmt;
+use tables::tables::Tables;
+use wording::effects::Effects;
+use wording::names::state_name;
+
+/// The states as a tree from state 0 on, and what the tree does not reach.
+#[derive(Clone, Copy)]
+pub(crate) struct States<'a> {
+    pub(crate) tables: &'a Tables,
+    pub(crate) outline: &'a Outline,
+}
+
+impl fmt::Display for States<'_> {
+    fn fmt<W: fmt::Write>(&self, f: &mut fmt::Formatter<W>) -> fmt::Result {
+        let tables = self.tables;
+        for node in &self.outline.nodes {
+            let line = NodeLine {
+                tables,
+                node: *node,
+            };
+            write!(f, "{line}\n")?;
+        }
+        let strays = &self.outline.strays;
+        if !strays.is_empty() {
+            f.write_str("  not under state 0:\n")?;
+        }
+        for item in strays {
+            let line = StrayLine {
+                tables,
+                item: *item,
+            };
+            write!(f, "    {line}\n")?;
+        }
+        Ok(())
+    }
+}
+
+/// An item of the tree.
+#[derive(Clone, Copy)]
+struct NodeLine<'a> {
+    tables: &'a Tables,
+    node: Node,
+}
+
+impl fmt::Display for NodeLine<'_> {
+    fn fmt<W: fmt::Write>(&self, f: &mut fmt::Formatter<W>) -> fmt::Result {
+        for _ in 0..self.node.level {
+            f.write_str("  ")?;
+        }
+        match self.node.item {
+            Item::State(number) => {
+                let initial = if is_initial(self.tables, number) {
+                    "initial "
+                } else {
+                    ""
+                };
+                let kind = self.tables.kind_of(number);
+                let name = state_name(self.tables, number);
+                let effects = sustained(self.tables, number);
+                write!(f, "{number} {initial}{kind} {name}{effects}")
+            }
+            Item::Graph(number) => write!(f, "graph {number}:"),
+        }
+    }
+}
+
+/// An item that the tree does not reach.
+#[derive(Clone, Copy)]
+struct StrayLine<'a> {
+    tables: &'a Tables,
+    item: Item,
+}
+
+impl fmt::Display for StrayLine<'_> {
+    fn fmt<W: fmt::Write>(&self, f: &mut fmt::Formatter<W>) -> fmt::Result {
+        match self.item {
+            Item::State(number) => {
+                let kind = self.tables.kind_of(number);
+                let name = state_name(self.tables, number);
+                let graph = self.tables.graph_of(number);
+                let effects = sustained(self.tables, number);
+                write!(f, "{number} {kind} {name} in graph {graph}{effects}")
+            }
+            Item::Graph(number) => {
+                let owner = self.tables.owner_of(number);
+                write!(f, "graph {number} of state {owner}")
+            }
+        }
+    }
+}
+
+fn sustained(tables: &Tables, state: usize) -> Effects<'_> {
+    Effects {
+        tables,
+        signals: tables.sustained_by(state),
+    }
+}
+
+/// Whether the state is the first with its graph's number. State 0 stands in no graph.
+fn is_initial(tables: &Tables, state: usize) -> bool {
+    let graph = tables.graph_of(state);
+    state > 0
+        && !tables
+            .states()
+            .iter()
+            .take(state)
+            .any(|earlier| earlier.graph == graph)
+}
