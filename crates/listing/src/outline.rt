@@ -5,21 +5,18 @@ use std::alloc::{AllocError, Global};
 use tables::tables::Tables;
 
 /// A state or a graph by its number.
-#[derive(Clone, Copy)]
+#[derive(Clone, Copy, PartialEq, Eq)]
 pub(crate) enum Item {
     State(usize),
     Graph(usize),
 }
 
 impl Item {
-    /// Whether the item stands directly below this one.
-    fn is_below(self, tables: &Tables, upper: Item) -> bool {
-        match (self, upper) {
-            (Item::Graph(graph), Item::State(state)) => usize::from(tables.owner_of(graph))
-                == state,
-            (Item::State(state), Item::Graph(graph)) => usize::from(tables.graph_of(state))
-                == graph,
-            _ => false,
+    /// What the item stands directly below.
+    fn upper(self, tables: &Tables) -> Item {
+        match self {
+            Item::State(state) => Item::Graph(usize::from(tables.graph_of(state))),
+            Item::Graph(graph) => Item::State(usize::from(tables.owner_of(graph))),
         }
     }
 }
@@ -31,30 +28,27 @@ pub(crate) struct Node {
     pub(crate) level: usize,
 }
 
-/// All states and graphs.
+/// All states and graphs of a chart.
 #[derive(Drop)]
-pub(crate) struct Outline {
+pub(crate) struct Outline<'a> {
+    heap: Global,
+    pub(crate) tables: &'a Tables,
     /// State 0 and what it holds, each behind what it stands below.
     pub(crate) nodes: Vec<Node>,
-    /// What state 0 does not hold: the graphs and, behind them, the states.
+    /// What state 0 does not hold: graphs and, behind them, states.
     pub(crate) strays: Vec<Item>,
 }
 
-impl Outline {
-    pub(crate) fn of(heap: Global, tables: &Tables) -> Result<Outline, AllocError> {
+impl<'a> Outline<'a> {
+    pub(crate) fn new(heap: Global, tables: &'a Tables) -> Result<Outline<'a>, AllocError> {
         let mut outline = Outline {
+            heap,
+            tables,
             nodes: Vec::new(heap),
             strays: below_root(heap, tables)?,
         };
-        if tables.state_count() > 0 {
-            outline.add(
-                heap,
-                tables,
-                Node {
-                    item: Item::State(0),
-                    level: 1,
-                },
-            )?;
+        if !tables.states().is_empty() {
+            outline.add(Item::State(0), 1)?;
         }
         Ok(outline)
     }
@@ -63,34 +57,26 @@ impl Outline {
         self.nodes.is_empty() && self.strays.is_empty()
     }
 
-    /// Adds the node, and behind it what it holds, which strays no longer.
-    fn add(&mut self, heap: Global, tables: &Tables, node: Node) -> Result<(), AllocError>
+    /// Adds the item at the level, and behind it what it holds, which strays no longer.
+    fn add(&mut self, item: Item, level: usize) -> Result<(), AllocError>
         ensures { vec_len self.new.strays ≤ vec_len self.old.strays }
     {
-        self.nodes.push(node)?;
-        let below = self.take_below(heap, tables, node.item)?;
-        let level = node.level.saturating_add(1);
+        self.nodes.push(Node { item, level })?;
+        let below = self.take_below(item)?;
         for item in &below {
-            self.add(heap, tables, Node { item: *item, level })?;
+            self.add(*item, level.saturating_add(1))?;
         }
         Ok(())
     }
 
     /// Takes what stands directly below the item out of the strays.
-    fn take_below(
-        &mut self,
-        heap: Global,
-        tables: &Tables,
-        upper: Item,
-    ) -> Result<Vec<Item>, AllocError>
+    fn take_below(&mut self, upper: Item) -> Result<Vec<Item>, AllocError>
         ensures taken { IfOk result (λ below. vec_len below + vec_len self.new.strays ≡ vec_len self.old.strays) }
         ensures fewer { vec_len self.new.strays ≤ vec_len self.old.strays }
     {
-        let (below, others) = self
-            .strays
-            .iter()
-            .copied()
-            .partition(heap, |item| item.is_below(tables, upper))?;
+        let tables = self.tables;
+        let items = self.strays.iter().copied();
+        let (below, others) = items.partition(self.heap, |item| item.upper(tables) == upper)?;
         self.strays = others;
         Ok(below)
     }

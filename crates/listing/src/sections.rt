@@ -2,14 +2,13 @@
 use crate::outline::Outline;
 use crate::section::Section;
 use crate::signals::Signals;
-use crate::states::States;
 use crate::suspensions::Suspensions;
 use crate::transitions::Transitions;
 use std::alloc::{AllocError, Global};
 use tables::tables::Tables;
 
 pub(crate) fn all(heap: Global, tables: &Tables) -> Result<String, AllocError> {
-    let outline = Outline::of(heap, tables)?;
+    let outline = Outline::new(heap, tables)?;
     let signals = Section {
         title: "signals",
         is_empty: tables.signals().is_empty(),
@@ -18,10 +17,7 @@ pub(crate) fn all(heap: Global, tables: &Tables) -> Result<String, AllocError> {
     let states = Section {
         title: "states",
         is_empty: outline.is_empty(),
-        lines: States {
-            tables,
-            outline: &outline,
-        },
+        lines: outline,
     };
     let transitions = Section {
         title: "transitions",

@@ -5,32 +5,20 @@ use tables::tables::Tables;
 use wording::effects::Effects;
 use wording::names::state_name;
 
-/// The states as a tree from state 0 on, and what the tree does not reach.
-#[derive(Clone, Copy)]
-pub(crate) struct States<'a> {
-    pub(crate) tables: &'a Tables,
-    pub(crate) outline: &'a Outline,
-}
-
-impl fmt::Display for States<'_> {
+impl fmt::Display for Outline<'_> {
     fn fmt<W: fmt::Write>(&self, f: &mut fmt::Formatter<W>) -> fmt::Result {
         let tables = self.tables;
-        for node in &self.outline.nodes {
-            let line = NodeLine {
-                tables,
-                node: *node,
-            };
+        for node in &self.nodes {
+            let node = *node;
+            let line = NodeLine { tables, node };
             write!(f, "{line}\n")?;
         }
-        let strays = &self.outline.strays;
-        if !strays.is_empty() {
+        if !self.strays.is_empty() {
             f.write_str("  not under state 0:\n")?;
         }
-        for item in strays {
-            let line = StrayLine {
-                tables,
-                item: *item,
-            };
+        for item in &self.strays {
+            let item = *item;
+            let line = StrayLine { tables, item };
             write!(f, "    {line}\n")?;
         }
         Ok(())
