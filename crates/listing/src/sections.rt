@@ -1,11 +1,21 @@
 // The four sections of a listing.
 use crate::outline::Outline;
-use crate::section::Section;
-use crate::signals::Signals;
-use crate::suspensions::Suspensions;
-use crate::transitions::Transitions;
 use std::alloc::{AllocError, Global};
 use tables::tables::Tables;
+use wording::section::Section;
+use wording::signals::Signals;
+use wording::suspensions::Suspensions;
+use wording::transitions::{Marks, Transitions};
+
+/// Transitions have no marks.
+#[derive(Clone, Copy)]
+struct Unmarked;
+
+impl Marks for Unmarked {
+    fn mark(&self, _transition: usize) -> &'static str {
+        ""
+    }
+}
 
 pub(crate) fn all(heap: Global, tables: &Tables) -> Result<String, AllocError> {
     let outline = Outline::new(heap, tables)?;
@@ -22,7 +32,10 @@ pub(crate) fn all(heap: Global, tables: &Tables) -> Result<String, AllocError> {
     let transitions = Section {
         title: "transitions",
         is_empty: tables.transitions().is_empty(),
-        lines: Transitions { tables },
+        lines: Transitions {
+            tables,
+            marks: Unmarked,
+        },
     };
     let suspensions = Section {
         title: "suspensions",
