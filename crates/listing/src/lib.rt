@@ -5,13 +5,16 @@ ghost use Rattle.std.specs.Prelude.{IfOk, string_bytes};
 ghost use Rattle.tables.specs.Views.{fields_of};
 ghost use Rattle.verdict.specs.Texts.{Told, Ends};
 
+use crate::marks::Unmarked;
+use crate::outline::Outline;
 use std::alloc::{AllocError, Global};
 use tables::tables::Tables;
 use verdict::refusal_text;
 use verdict::summary::Summary;
+use wording::sections::Sections;
 
+mod marks;
 mod outline;
-mod sections;
 mod states;
 
 /// The listing of a chart file, or why it is refused.
@@ -29,8 +32,17 @@ pub fn listing(heap: Global, bytes: &[u8]) -> Result<String, AllocError>
 fn chart_text(heap: Global, tables: &Tables) -> Result<String, AllocError>
     ensures { IfOk result (λ text. Ends (fields_of tables.now) (string_bytes text)) }
 {
-    let mut text = sections::all(heap, tables)?;
+    let mut text = sections_text(heap, tables)?;
     let summary = Summary::of_tables(tables);
     write!(text, "{summary}")?;
     Ok(text)
+}
+
+fn sections_text(heap: Global, tables: &Tables) -> Result<String, AllocError> {
+    let sections = Sections {
+        tables,
+        states: Outline::new(heap, tables)?,
+        marks: Unmarked,
+    };
+    format!(in heap; "{sections}")
 }

@@ -53,10 +53,6 @@ impl<'a> Outline<'a> {
         Ok(outline)
     }
 
-    pub(crate) fn is_empty(&self) -> bool {
-        self.nodes.is_empty() && self.strays.is_empty()
-    }
-
     /// Adds the item at the level, and behind it what it holds, which strays no longer.
     fn add(&mut self, item: Item, level: usize) -> Result<(), AllocError>
         ensures { vec_len self.new.strays ≤ vec_len self.old.strays }

@@ -3,8 +3,9 @@
 
 pub mod effects;
 pub mod names;
-pub mod section;
-pub mod signals;
-pub mod suspensions;
+mod section;
+pub mod sections;
+mod signals;
+mod suspensions;
 pub mod transitions;
 pub mod triggers;
