@@ -5,6 +5,10 @@ ghost use Rattle.chart.specs.Stated.{stated};
 
 use crate::kinds::{SignalKind, StateKind, Tag, TransitionKind};
 
+/// The graph number of the root, which stands in no graph.
+// A number and no `Option`: any state may have any number in a file, and the rules tell a wrong one.
+pub const NO_GRAPH: u16 = 65_535;
+
 /// One field. States, graphs and signals are named by their numbers, which count each kind from 0 in file order.
 #[derive(Clone, Copy)]
 pub enum Field<'a> {

@@ -8,12 +8,10 @@ ghost use Rattle.derived.specs.Suspended.{suspension_span};
 
 use chains::Chains;
 use chains::endings::initial_state;
+use chart::fields::NO_GRAPH;
 use rules::depth::depth;
 use tables::rows::Span;
 use tables::tables::Tables;
-
-// The file's own number for a state in no graph. Groups have numbers for keys, and it is the key of none.
-const NO_GRAPH: u16 = 65535;
 
 /// What is derived of a state; of a number that no state has, 0 and none.
 #[derive(Clone, Copy, Default)]
@@ -62,7 +60,7 @@ pub(crate) fn initial_of(tables: &Tables, graph: usize) -> u16
     initial_state(tables, graph) as u16
 }
 
-/// The graph that the state stands in. The root stands in none.
+/// The key of the state among the members of graphs: the graph that it stands in. The root stands in none, and its key is that of none.
 pub(crate) fn place_of(tables: &Tables, state: usize) -> u16
     ensures { result ≡ (if nat_eq state 0 then 65535 else graph_of (fields_of tables.now) state) }
 {

@@ -35,10 +35,11 @@ impl From<Refusal> for Outcome {
     ghost from_gives = { λ refusal outcome. outcome ≡ refused refusal };
 
     fn from(refusal: Refusal) -> Outcome {
+        let code = refusal.code();
         Outcome {
-            number: refusal.number(),
-            layer: refusal.layer(),
-            place: refusal.place(),
+            number: code.number,
+            layer: code.layer,
+            place: code.place,
         }
     }
 }

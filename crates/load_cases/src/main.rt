@@ -12,10 +12,8 @@ fn report(heap: Global, chart: &mut Chart, name: &str, file: &[u8]) -> Result<St
             format!(in heap; "{name}: loaded, {count} fields")
         }
         Err(refusal) => {
-            let number = refusal.number();
-            let layer = refusal.layer();
-            let place = refusal.place();
-            format!(in heap; "{name}: refused {number} layer {layer} at {place}")
+            let code = refusal.code();
+            format!(in heap; "{name}: {code}")
         }
     }
 }

@@ -1,12 +1,11 @@
 // Why a chart file is not loaded, in a line and a sentence.
 #![tactic(auto)]
 
-ghost use Rattle.std.specs.Prelude.{◌≡◌, IfOk, string_bytes};
-ghost use Rattle.load_verdict.specs.Texts.{code_of};
+ghost use Rattle.std.specs.Prelude.{IfOk, string_bytes};
+ghost use Rattle.loading.specs.Numbers.{code_of};
 ghost use Rattle.verdict.specs.Texts.{Begins};
 
 use crate::sentences::Sentence;
-use chart::refusals::RefusalCode;
 use loading::refusals::Refusal;
 use std::alloc::{AllocError, Global};
 use verdict::refusals;
@@ -18,15 +17,5 @@ mod sentences;
 pub fn refusal_text(heap: Global, refusal: &Refusal) -> Result<String, AllocError>
     ensures { IfOk result (λ text. Begins (code_of refusal.now) (string_bytes text)) }
 {
-    refusals::text(heap, code(refusal), Sentence(refusal))
-}
-
-fn code(refusal: &Refusal) -> RefusalCode
-    ensures { result ≡ code_of refusal.now }
-{
-    RefusalCode {
-        number: refusal.number(),
-        layer: refusal.layer(),
-        place: refusal.place(),
-    }
+    refusals::text(heap, refusal.code(), Sentence(refusal))
 }

@@ -7,13 +7,10 @@ ghost use Rattle.rules.specs.Naming.{transition_naming, effects_naming};
 
 use crate::rule::Rule;
 use crate::site::Site;
-use chart::fields::Field;
+use chart::fields::{Field, NO_GRAPH};
 use tables::rows::Entry;
 use tables::tables::Tables;
 use validity::faults::Fault;
-
-// The graph number of state 0, which stands in no graph.
-const NO_GRAPH: u16 = 65_535;
 
 // Whether the graph number of a state names no graph in front of it, or that of state 0 is not 65,535.
 fn is_unknown_graph(entry: Entry, graph: u16) -> bool
