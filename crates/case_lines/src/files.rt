@@ -23,6 +23,7 @@ pub(crate) fn file_of(heap: Global, text: &str) -> Result<Vec<u8>, CaseError> {
 fn add_part(heap: Global, file: &mut Vec<u8>, part: &str) -> Result<(), CaseError> {
     let (times, text) = repeated(part)?;
     let bytes = bytes_of(heap, text)?;
+    // The same bytes so many times.
     for _ in 0..times {
         file.extend_from_slice(bytes.as_slice())?;
     }
@@ -50,6 +51,7 @@ fn bytes_of(heap: Global, text: &str) -> Result<Vec<u8>, CaseError> {
 }
 
 fn add_word(bytes: &mut Vec<u8>, word: &[u8]) -> Result<(), CaseError> {
+    // A loop: each pair may be no byte, and there may be no memory for it.
     for pair in word.chunks(2) {
         bytes.push(byte_of(pair).ok_or(CaseError::NotACase)?)?;
     }

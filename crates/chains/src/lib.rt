@@ -32,6 +32,7 @@ impl Chains {
     {
         let mut marks = array::from_fn(|transition| tables.is_immediate(transition));
         let mut reach = reach_by(tables, &marks);
+        // A bounded number of turns, each over the marks of the one before it.
         for _turn in 0..8usize {
             let next = chain_marks(tables, &reach);
             if next == marks {

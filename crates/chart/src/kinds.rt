@@ -63,6 +63,7 @@ impl TryFrom<u8> for Tag {
     }
 }
 
+// A `TryFrom` for each kind, as Rust has it: variants and codes are all that they have, and a table of them would be no shorter.
 impl TryFrom<u8> for SignalKind {
     type Error = Part;
 
@@ -109,6 +110,7 @@ impl TryFrom<u8> for TransitionKind {
 }
 
 /// A flag is written 0 for no and 1 for yes.
+// A function: Rust lets no crate but the library's write `TryFrom<u8> for bool`.
 pub(crate) fn flag_from_code(code: u8) -> Result<bool, Part>
     ensures { result ≡ ok_or (flag_from code) Part.Flag }
 {

@@ -5,6 +5,7 @@ ghost use Rattle.chart.specs.Words.{signal_word, state_word, transition_word};
 use crate::kinds::{SignalKind, StateKind, TransitionKind};
 use std::fmt;
 
+// One `word` for each kind: the words are all that it has.
 impl SignalKind {
     pub fn word(self) -> &'static str
         ensures { result.now ≡ signal_word self }

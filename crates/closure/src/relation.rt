@@ -53,6 +53,7 @@ impl Relation {
     pub(crate) fn close(&mut self)
         ensures { (x y : ℕ) → x < 256 → y < 256 → holds self.new.rows x y ≡ leads self.old.size (holds self.old.rows) x y }
     {
+        // Over numbers and not over rows: each number is joined into all rows.
         for middle in 0..self.size {
             self.join(middle);
         }

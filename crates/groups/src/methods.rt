@@ -33,6 +33,7 @@ impl Groups {
         }
         self.starts.reserve(size)?;
         self.members.reserve(keys.len())?;
+        // Over numbers: nothing has an entry for each key yet.
         for key in 0..size {
             self.add_group(keys, key);
         }

@@ -34,6 +34,7 @@ struct NodeLine<'a> {
 
 impl fmt::Display for NodeLine<'_> {
     fn fmt<W: fmt::Write>(&self, f: &mut fmt::Formatter<W>) -> fmt::Result {
+        // The same text so many times.
         for _ in 0..self.node.level {
             f.write_str("  ")?;
         }

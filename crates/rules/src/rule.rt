@@ -11,6 +11,7 @@ use tables::tables::Tables;
 use validity::faults::{Fault, Invalid};
 
 /// A rule that each field keeps or breaks.
+// A trait: `breaks` says once what a rule means. A closure's meaning would have to be asked for at each call.
 pub(crate) trait Rule {
     /// How the field at an index breaks it, if it does.
     ghost breaks: { Self → List AnyField → ℕ → Maybe AnyFault };

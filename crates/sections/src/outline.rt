@@ -98,6 +98,7 @@ struct Indent {
 
 impl fmt::Display for Indent {
     fn fmt<W: fmt::Write>(&self, f: &mut fmt::Formatter<W>) -> fmt::Result {
+        // The same text so many times.
         for _ in 1..self.depth {
             f.write_str("    ")?;
         }

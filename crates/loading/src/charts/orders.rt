@@ -9,6 +9,7 @@ ghost use Rattle.loading.specs.Meaning.{copy_in, fields_for, meaning};
 use crate::charts::Chart;
 use tables::rows::Span;
 
+// Each asks first whether the chart has the number. One line each, they differ in what they ask for; a function for that line would need the same closure.
 impl Chart {
     /// How deep the state stands; the root stands at 1.
     pub fn depth(&self, state: usize) -> Option<u16>
