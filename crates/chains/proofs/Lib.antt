@@ -1,3 +1,2 @@
 mod Found
 mod Levels
-pub mod Loops
