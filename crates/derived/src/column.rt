@@ -1,4 +1,4 @@
-// Columns: a value for each number, and the numbers in groups by their values.
+// Columns: a value for each number; and the numbers in groups by their keys.
 ghost use Rattle.std.specs.Prelude.{◌≡◌, ℕ, ◌<◌, ◌≤◌, vec_len, vec_capacity, nat_eq, slice_index_or};
 ghost use Rattle.groups.specs.Lookup.{group, room_for_keys, room_for_numbers, HasRoom};
 ghost use Rattle.groups.specs.Numbers.{those};
