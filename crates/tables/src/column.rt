@@ -1,6 +1,5 @@
 // The rows of one kind.
-ghost use Rattle.std.specs.Prelude.{◌≡◌, ◌<◌, ◌≤◌, [], length, if◌then◌else◌, Some, None, IfOk, vec_len, vec_capacity, slice_index_or};
-ghost use Rattle.validity.specs.Parts.{at as field_at};
+ghost use Rattle.std.specs.Prelude.{◌≡◌, ◌≤◌, [], IfOk, vec_len, vec_capacity, slice_index_or};
 ghost use Rattle.tables.specs.Columns.{RowsOf};
 ghost use Rattle.tables.specs.Copied.{fields_in};
 
@@ -37,9 +36,8 @@ impl<P: Part> Column<P> {
         ensures { RowsOf P.makes (P.Part.row (fields_in file.now)) (fields_in file.now) self.new.rows.items }
     {
         self.rows.clear();
-        // By index: a loop over a chain with a closure has no proof yet in a generic function.
-        for index in 0..file.field_count() {
-            if let Some(row) = row_at(file, index) {
+        for field in file.fields() {
+            if let Some(row) = P::of(&field) {
                 self.rows.push_reserved(row);
             }
         }
@@ -63,12 +61,4 @@ impl<P: Part> Column<P> {
     {
         self.rows.get(number).copied().unwrap_or(P::ZEROS)
     }
-}
-
-// The row of the field with this index, if it makes one.
-fn row_at<P: Part>(file: &ChartFile, index: usize) -> Option<P>
-    requires { index < length (fields_in file.now) }
-    ensures { result ≡ (if P.makes (field_at (fields_in file.now) index) then Some (P.Part.row (fields_in file.now) index) else None) }
-{
-    P::of(&file.indexed(index)?)
 }

@@ -1,5 +1,6 @@
 // A field of a chart file with its index, and where its bytes stand.
-ghost use Rattle.std.specs.Prelude.{◌≡◌, ◌+◌, ◌<◌, ◌≤◌, false, length, MatchOption};
+ghost use Rattle.std.specs.Prelude.{◌≡◌, ◌+◌, ◌-◌, ◌<◌, ◌≤◌, false, length, MatchOption};
+ghost use Rattle.std.specs.Iterator.{at_most};
 ghost use Rattle.chart.specs.Fields.{graph, is, place_at};
 ghost use Rattle.chart.specs.Stated.{stated};
 ghost use Rattle.validity.specs.Parts.{at as field_at, bytes_in};
@@ -32,6 +33,39 @@ impl ChartFile {
             index,
             field,
         })
+    }
+}
+
+/// The fields of a chart file, from an index on.
+#[derive(Drop)]
+pub(crate) struct Fields<'a> {
+    file: &'a ChartFile,
+    index: usize,
+}
+
+impl ChartFile {
+    // All fields.
+    pub(crate) fn fields(&self) -> Fields<'_>
+        ensures { (result.file.now ≡ self.now) × (result.index ≡ 0) }
+    {
+        Fields {
+            file: self,
+            index: 0,
+        }
+    }
+}
+
+impl<'a> Iterator for Fields<'a> {
+    type Item = Indexed<'a>;
+
+    ghost next_gives = { λ s r t. (t.file.now ≡ s.file.now) × MatchOption r (length (fields_in s.file.now) ≤ s.index) (λ f. (f.file.now ≡ s.file.now) × (f.index ≡ s.index) × (t.index ≡ s.index + 1)) };
+
+    ghost remaining = { λ s. at_most (length (fields_in s.file.now) - s.index) };
+
+    fn next(&mut self) -> Option<Indexed<'a>> {
+        let field = self.file.indexed(self.index)?;
+        self.index += 1;
+        Some(field)
     }
 }
 
