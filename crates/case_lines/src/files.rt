@@ -1,15 +1,24 @@
 // The bytes of a case's file.
-use std::alloc::{AllocError, Global};
-use thiserror::Error;
+use std::alloc::{AllocError, AllocFailed, Global};
 
 /// Why there are no bytes.
-#[derive(Debug, Drop, Error)]
+#[derive(Clone, Copy)]
 pub(crate) enum CaseError {
     /// The text is not one that a case may have.
-    #[error("not a case")]
     NotACase,
-    #[error(transparent)]
-    Memory(#[from(alloc)] AllocError),
+    Memory(AllocError),
+}
+
+impl From<AllocError> for CaseError {
+    fn from(error: AllocError) -> CaseError {
+        CaseError::Memory(error)
+    }
+}
+
+impl<T: Drop> From<AllocFailed<T>> for CaseError {
+    fn from(failed: AllocFailed<T>) -> CaseError {
+        CaseError::Memory(AllocError::from(failed))
+    }
 }
 
 pub(crate) fn file_of(heap: Global, text: &str) -> Result<Vec<u8>, CaseError> {

@@ -3,25 +3,14 @@
 #![tactic(auto)]
 
 use std::alloc::{AllocError, Global};
-use std::io;
 use std::io::{Input, Print};
-use thiserror::Error;
 
 mod files;
 
 use files::{CaseError, file_of};
 
-/// Why not all lines could be run.
-#[derive(Debug, Drop, Error)]
-pub enum RunError {
-    #[error(transparent)]
-    Io(#[from] io::Error),
-    #[error(transparent)]
-    Memory(#[from] AllocError),
-}
-
 /// Reads the cases from standard input, and prints for each what `report` gives for its name and file.
-pub fn run<R, F>(rt: &R, mut report: F) -> Result<(), RunError>
+pub fn run<R, F>(rt: &R, mut report: F) -> anyhow::Result<()>
 where
     R: Input + Print + AllocGlobal,
     F: FnMut(&str, &[u8]) -> Result<String, AllocError>,
@@ -50,7 +39,7 @@ fn case_in(line: &str) -> Option<(&str, &str)> {
 /// What is printed for a case whose file cannot be read.
 fn unread(heap: Global, name: &str, error: CaseError) -> Result<String, AllocError> {
     match error {
+        CaseError::NotACase => format!(in heap; "{name}: not a case"),
         CaseError::Memory(error) => Err(error),
-        error @ CaseError::NotACase => format!(in heap; "{name}: {error}"),
     }
 }

@@ -33,6 +33,5 @@ fn report(heap: Global, name: &str, file: &[u8]) -> Result<String, AllocError> {
 
 fn main(rt: HostRuntime) -> anyhow::Result<()> {
     let heap = rt.alloc();
-    run(&rt, |name, file| report(heap, name, file))?;
-    Ok(())
+    run(&rt, |name, file| report(heap, name, file))
 }

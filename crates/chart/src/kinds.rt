@@ -2,7 +2,7 @@
 ghost use Rattle.std.specs.Prelude.{◌≡◌};
 ghost use Rattle.std.specs.Option.{ok_or};
 ghost use Rattle.chart.specs.Kinds.{tag_from, signal_kind_from, state_kind_from, transition_kind_from, flag_from, unknown_tag};
-ghost use Rattle.chart.specs.declared.refusals.Part.TheVariants.{Kind as Kind, Flag as FlagPart};
+ghost use Rattle.chart.specs.declared.refusals.Part.TheVariants.{Kind};
 
 use crate::refusals::Part;
 

@@ -13,7 +13,7 @@ use relation::Relation;
 use row::Row;
 
 /// An edge from one number to another; only marked ones are steps.
-// The mark is a field and no `Option`: an edge keeps its ends when its mark is taken away.
+// The mark is a field: a caller lends an array of all its edges, and none has to be copied into room for those that count.
 #[derive(Clone, Copy)]
 pub struct Edge {
     pub source: u16,

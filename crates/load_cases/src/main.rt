@@ -21,6 +21,5 @@ fn report(heap: Global, chart: &mut Chart, name: &str, file: &[u8]) -> Result<St
 fn main(rt: HostRuntime) -> anyhow::Result<()> {
     let heap = rt.alloc();
     let mut chart = Chart::new(heap)?;
-    run(&rt, |name, file| report(heap, &mut chart, name, file))?;
-    Ok(())
+    run(&rt, |name, file| report(heap, &mut chart, name, file))
 }
