@@ -1,7 +1,7 @@
 // A field's contents, once its tag is known.
 ghost use Rattle.std.specs.Prelude.{◌≡◌, length};
 ghost use Rattle.std.specs.Option.{ok_or};
-ghost use Rattle.chart.specs.WellFormed.{between, is_name};
+ghost use Rattle.chart.specs.WellFormed.{between};
 ghost use Rattle.chart.specs.Decoding.{decode as decoded, tested, word_in, Named};
 ghost use Rattle.chart.specs.Stated.{stated_by};
 

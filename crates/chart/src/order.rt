@@ -6,7 +6,7 @@ ghost use Rattle.chart.specs.Stated.{stated};
 use crate::fields::Field;
 use crate::kinds::{StateKind, Tag};
 
-/// How far the file has come, by what the next field may be.
+/// What the next field may be.
 #[derive(Clone, Copy)]
 pub(crate) enum Stage {
     /// Nothing but signals so far.

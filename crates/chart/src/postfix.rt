@@ -14,6 +14,7 @@ pub enum Symbol {
 }
 
 /// A byte that means nothing in a trigger.
+// A type of its own: a byte of a trigger is no tag.
 #[derive(Clone, Copy, PartialEq, Eq)]
 pub struct UnknownSymbol(pub u8);
 

@@ -42,6 +42,7 @@ impl TransitionKind {
     }
 }
 
+// A Display for each: Rust lets no crate write one for all types of a trait.
 impl fmt::Display for SignalKind {
     ghost output = { λ kind. Some (signal_word kind) };
 
