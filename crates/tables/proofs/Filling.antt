@@ -27,9 +27,6 @@ module _ {A : Type 0} (p : Field → Bool) (fs : List Field) (row : ℕ → A) w
     pub counted : length xs ≡ count p (take k fs)
     pub told : (n : ℕ) (d : A) → n < length xs → get_or xs n d ≡ row (index_of p fs n)
 
-  pub filled_none : Filled 0 []
-  filled_none = record { counted = refl; told = λ n d l. absurd (omega arith) }
-
   -- the field at k makes this row
   makes_it : (k : ℕ) (x : A) → Some x ≡ cond (p (at fs k)) (Some (row k)) None → (p (at fs k) ≡ true) × (x ≡ row k)
   makes_it k x h = go (p (at fs k)) h
