@@ -1,5 +1,6 @@
 -- Rows made of fields.
 use Rattle.std.proofs.Common.{◌≡◌, ℕ, suc, ◌+◌, Bool, true, false, cond, List, Some, None, Option, sym, refl, ap, ◌∙◌, arith}
+use Rattle.std.specs.Option.{is_some}
 use Rattle.chart.specs.declared.kinds.Tag as tag
 use Rattle.chart.specs.declared.kinds.StateKind.{StateKind}
 use Rattle.chart.specs.declared.kinds.TransitionKind.{TransitionKind}
@@ -45,24 +46,19 @@ module _ (fs : List Field) (i : ℕ) where
 
   -- The effects of a transition, with a trigger between and without.
 
-  pub behind_trigger : (t : Span) (e : Option Span) → Some t ≡ trigger_span_at fs (i + 1) → e ≡ effects_span_at fs (i + 2) → e ≡ (transition_at fs i).effects
-  behind_trigger t e h is-effects =
-      go (is tag.TheVariants.Trigger (at fs (suc i))) refl
+  trigger_there : is_some (trigger_span_at fs (i + 1)) ≡ is tag.TheVariants.Trigger (at fs (suc i))
+  trigger_there = ap (λ k. is_some (trigger_span_at fs k)) (plus i) ∙ go (is tag.TheVariants.Trigger (at fs (suc i)))
     where
-      go : (b : Bool) → is tag.TheVariants.Trigger (at fs (suc i)) ≡ b → e ≡ (transition_at fs i).effects
-      go true l =
-          is-effects ∙ ap (effects_span_at fs) (plus_two i) ∙ sym (ap (λ b. cond b (effects_span_at fs (suc (suc i))) (effects_span_at fs (suc i))) l)
-      go false l =
-          let none : Some t ≡ None = h ∙ ap (trigger_span_at fs) (plus i) ∙ ap (λ b. cond b (Some (span_at fs 3 (suc i))) None) l in
-          absurd (grind arith)
+      go : (b : Bool) → is_some (cond b (Some (span_at fs 3 (suc i))) None) ≡ b
+      go true = refl
+      go false = refl
 
-  pub behind_itself : (e : Option Span) → None ≡ trigger_span_at fs (i + 1) → e ≡ effects_span_at fs (i + 1) → e ≡ (transition_at fs i).effects
-  behind_itself e h is-effects =
-      go (is tag.TheVariants.Trigger (at fs (suc i))) refl
-    where
-      go : (b : Bool) → is tag.TheVariants.Trigger (at fs (suc i)) ≡ b → e ≡ (transition_at fs i).effects
-      go true l =
-          let some : None ≡ Some (span_at fs 3 (suc i)) = h ∙ ap (trigger_span_at fs) (plus i) ∙ ap (λ b. cond b (Some (span_at fs 3 (suc i))) None) l in
-          absurd (grind arith)
-      go false l =
-          is-effects ∙ ap (effects_span_at fs) (plus i) ∙ sym (ap (λ b. cond b (effects_span_at fs (suc (suc i))) (effects_span_at fs (suc i))) l)
+  pub behind_trigger : (t e : Option Span) → true ≡ is_some t → t ≡ trigger_span_at fs (i + 1) → e ≡ effects_span_at fs (i + 2) → e ≡ (transition_at fs i).effects
+  behind_trigger t e some is-trigger is-effects =
+      is-effects ∙ ap (effects_span_at fs) (plus_two i)
+      ∙ ap (λ b. cond b (effects_span_at fs (suc (suc i))) (effects_span_at fs (suc i))) (some ∙ ap is_some is-trigger ∙ trigger_there)
+
+  pub behind_itself : (t e : Option Span) → false ≡ is_some t → t ≡ trigger_span_at fs (i + 1) → e ≡ effects_span_at fs (i + 1) → e ≡ (transition_at fs i).effects
+  behind_itself t e none is-trigger is-effects =
+      is-effects ∙ ap (effects_span_at fs) (plus i)
+      ∙ ap (λ b. cond b (effects_span_at fs (suc (suc i))) (effects_span_at fs (suc i))) (none ∙ ap is_some is-trigger ∙ trigger_there)

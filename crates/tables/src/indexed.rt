@@ -103,6 +103,7 @@ impl Indexed<'_> {
     fn tagged_span(&self, tag: Tag) -> Option<Span>
         ensures { result ≡ tagged_span_at (fields_in self.now.file.now) tag self.now.index }
     {
+        // No `then`: of a closure that borrows this field the check learns nothing.
         if self.field.tag() == tag {
             Some(self.span(3))
         } else {

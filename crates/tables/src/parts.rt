@@ -206,8 +206,9 @@ impl Part for Suspension {
 fn effects_behind(field: &Indexed<'_>) -> Option<Span>
     ensures { result ≡ (transition_at (fields_in field.now.file.now) field.now.index).effects }
 {
-    match field.behind(1, Tag::Trigger) {
-        Some(_) => field.behind(2, Tag::Effects),
-        None => field.behind(1, Tag::Effects),
+    if field.behind(1, Tag::Trigger).is_some() {
+        field.behind(2, Tag::Effects)
+    } else {
+        field.behind(1, Tag::Effects)
     }
 }

@@ -1,5 +1,5 @@
 // A chart file is copied once it has passed the first layer.
-ghost use Rattle.std.specs.Prelude.{◌≡◌, ◌+◌, ◌<◌, ◌≤◌, [], ◌∷◌, ◌++◌, length, IfOk, vec_len, vec_capacity, MatchResult};
+ghost use Rattle.std.specs.Prelude.{◌≡◌, ◌<◌, ◌≤◌, [], length, IfOk, vec_capacity, MatchResult};
 ghost use Rattle.chart.specs.Files.{Passes, Refused};
 ghost use Rattle.chart.specs.Reading.{row_of};
 ghost use Rattle.chart.specs.Stated.{stated};
@@ -39,6 +39,7 @@ impl ChartFile {
                 copy(bytes, &mut self.bytes);
                 Ok(())
             }
+            // No `?` here: the entries of a refused file are cleared first.
             Err(refusal) => {
                 self.bytes.clear();
                 self.entries.clear();

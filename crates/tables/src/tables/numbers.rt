@@ -17,6 +17,7 @@ impl Tables {
         &self.file
     }
 
+    // One accessor for each kind of row: one call each, and a generic one would make the trait of rows public.
     pub fn signals(&self) -> &[Signal]
         ensures counted { length result.now ≡ signals_in (fields_of self.now) }
         ensures told { (n : ℕ) → n < length result.now → slice_index_or result.now n no_signal ≡ signal_row (fields_of self.now) n }

@@ -9,6 +9,7 @@ ghost use Rattle.tables.specs.Views.{fields_of};
 use crate::rows::{Graph, Signal, State, Suspension, Transition};
 use crate::tables::Tables;
 
+// Zeros and no `Option`: the definitions see zeros too, so no rule has to be proved only of numbers that name something.
 impl Tables {
     // The signal with this number.
     pub(crate) fn signal(&self, signal: usize) -> Signal
