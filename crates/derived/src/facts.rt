@@ -61,7 +61,7 @@ pub(crate) fn initial_of(tables: &Tables, graph: usize) -> u16
 }
 
 /// The key of the state among the members of graphs: the graph that it stands in. The root stands in none, and its key is that of none.
-pub(crate) fn place_of(tables: &Tables, state: usize) -> u16
+pub(crate) fn graph_key(tables: &Tables, state: usize) -> u16
     ensures { result ≡ (if nat_eq state 0 then 65535 else graph_of (fields_of tables.now) state) }
 {
     if state == 0 {

@@ -11,7 +11,7 @@ ghost use Rattle.derived.specs.Suspended.{suspension_span};
 
 use crate::Derived;
 use crate::column::{fill_column, fill_groups};
-use crate::facts::{StateFacts, initial_of, place_of};
+use crate::facts::{StateFacts, graph_key, initial_of};
 use chains::Chains;
 use groups::Groups;
 use std::alloc::{AllocError, Global};
@@ -42,7 +42,7 @@ impl Derived {
         })
     }
 
-    /// Nothing is derived any more.
+    /// Nothing is derived.
     pub fn clear(&mut self)
         ensures { Empty self.new }
     {
@@ -84,7 +84,7 @@ impl Derived {
             tables.target_of(t)
         });
         fill_groups(&mut self.members, keys, states, graphs, |s| {
-            place_of(tables, s)
+            graph_key(tables, s)
         });
         fill_groups(&mut self.owned, keys, graphs, states, |g| {
             tables.owner_of(g)
