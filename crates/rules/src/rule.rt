@@ -24,10 +24,7 @@ pub(crate) trait Rule {
 pub(crate) fn check_fields<R: Rule>(rule: &R, tables: &Tables) -> Result<(), Invalid>
     ensures { result ≡ unless (first_of (length (fields_of tables.now)) (λ i. located (place_at (fields_of tables.now) i) (R.breaks rule.now (fields_of tables.now) i))) }
 {
-    match first_invalid(rule, tables) {
-        Some(invalid) => Err(invalid),
-        None => Ok(()),
-    }
+    first_invalid(rule, tables).map_or(Ok(()), Err)
 }
 
 // The first field that breaks the rule.
