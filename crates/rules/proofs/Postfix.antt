@@ -1,5 +1,5 @@
 -- The check of a trigger, byte by byte.
-use Rattle.std.proofs.Common.{◌≡◌, ℕ, List, [], ◌∷◌, length, Some, None, Ok, Err, Option, Result, MatchOption, Bor, refl, sym, ap, ◌∙◌, subst}
+use Rattle.std.proofs.Common.{◌≡◌, ℕ, List, [], ◌∷◌, length, Some, None, Ok, Err, Option, Result, MatchOption, MatchResult, Bor, refl, sym, ap, ◌∙◌, subst}
 use Rattle.std.specs.declared.slice.Iter.{Iter}
 use Rattle.std.below.core.specs.declared.result.ErrResidual.{ErrResidual}
 use Rattle.std.specs.Fn.{Called}
@@ -53,3 +53,8 @@ module _ {F : Type 0} {g : Mut F (ℕ × (Bor ℕ × Unit {0})) (Result ℕ Faul
   folded {s} u bytes r starts d =
       let w = went d.0 s d.4.0 0 d.3 d.2 d.4.1 d.5 in
       sym (ap (λ ys. postfix_fault signals ys 0) (sym starts) ∙ (w.1 ∙ ended u r d.1 d.4.0 d.3 d.2 w.0 d.4.2 d.6))
+
+-- what is told of so many values at the end, or of a fault
+pub answered : (signals : ℕ) (r : Result ℕ Fault) (o : Option Fault) → MatchResult r (λ a. o ≡ postfix_fault signals [] a) (λ e. o ≡ Some e) → o ≡ onwards r (postfix_fault signals [])
+answered signals (Ok a) o h = h
+answered signals (Err e) o h = h

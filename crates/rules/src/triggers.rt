@@ -2,7 +2,6 @@
 ghost use Rattle.std.specs.Prelude.{◌≡◌, ◌+◌, ◌-◌, if◌then◌else◌, Some, None, nat_eq};
 ghost use Rattle.validity.specs.Triggers.{pushed, operated, stacked as stacked_by, postfix_fault};
 ghost use Rattle.validity.specs.Faults.{trigger_fault};
-ghost use Rattle.tables.specs.Views.{fields_of};
 
 use crate::rule::Rule;
 use crate::site::Site;
@@ -59,13 +58,10 @@ fn end_fault(values: usize) -> Option<Fault>
 fn postfix_fault(signals: usize, postfix: &[u8]) -> Option<Fault>
     ensures { result ≡ postfix_fault signals postfix.now 0 }
 {
-    match postfix
+    postfix
         .iter()
         .try_fold(0, |values, byte| stacked(signals, *byte, values))
-    {
-        Ok(values) => end_fault(values),
-        Err(fault) => Some(fault),
-    }
+        .map_or_else(Some, end_fault)
 }
 
 /// The rule on triggers.
