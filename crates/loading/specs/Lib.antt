@@ -1,5 +1,4 @@
 pub mod Derives
-pub mod Judged
 pub mod Kept
 pub mod Laws
 pub mod Loading

@@ -1,11 +1,9 @@
 // The six rules, each over the whole file before the next.
-ghost use Rattle.std.specs.Prelude.{◌≡◌, ℕ, Ok, Err, MatchResult};
-ghost use Rattle.closure.specs.Rows.{told};
+ghost use Rattle.std.specs.Prelude.{◌≡◌, Err, MatchResult};
 ghost use Rattle.validity.specs.Outcome.{first_by, rule_at, unless, outcome};
 ghost use Rattle.validity.specs.Ranges.{first_of};
-ghost use Rattle.validity.specs.Tables.{is_chain, chain_leads};
 ghost use Rattle.tables.specs.Views.{fields_of};
-ghost use Rattle.chains.specs.Marks.{marked};
+ghost use Rattle.rules.specs.Judged.{Judged};
 
 use crate::ends::Ends;
 use crate::leaving::Leaving;
@@ -30,7 +28,7 @@ fn check_before_rings(tables: &Tables) -> Result<(), Invalid>
 
 /// The chain transitions of a valid chart; else the first rule that some field breaks, at the first such field.
 pub fn check(tables: &Tables) -> Result<Chains, Invalid>
-    ensures { MatchResult result (λ c. (outcome (fields_of tables.now) ≡ Ok tt) × ((t : ℕ) → marked c t ≡ is_chain (fields_of tables.now) t) × ((x y : ℕ) → told c.reach x y ≡ chain_leads (fields_of tables.now) (is_chain (fields_of tables.now)) x y)) (λ x. outcome (fields_of tables.now) ≡ Err x) }
+    ensures { MatchResult result (Judged (fields_of tables.now)) (λ x. outcome (fields_of tables.now) ≡ Err x) }
 {
     check_before_rings(tables)?;
     let chains = Chains::of(tables);

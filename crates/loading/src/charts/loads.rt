@@ -1,7 +1,7 @@
 // A chart is loaded from a file, or refused and left empty.
 ghost use Rattle.std.specs.Prelude.{◌≡◌, [], is_ok, IfOk, if◌then◌else◌, Ok, Err, MatchResult};
 ghost use Rattle.tables.specs.Views.{fields_of};
-ghost use Rattle.loading.specs.Judged.{Judged};
+ghost use Rattle.rules.specs.Judged.{Judged};
 ghost use Rattle.loading.specs.Loading.{loading};
 
 use crate::charts::Chart;

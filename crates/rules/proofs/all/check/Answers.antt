@@ -10,3 +10,13 @@ returns-in_err-check_fields c =
     let r = c.of-chains.result in
     let e = last_rule (fields_of c.args.tables.now) (marked r) (told r.reach) c.of-chains.ensures.chain c.of-chains.ensures.leads (sym c.check_before_rings.ensures ∙ c.in_ok-check_before_rings.was) ∙ (sym c.check_fields.ensures ∙ c.in_err-check_fields.was) in
     search rules
+
+pub returns : goal.returns
+returns c =
+    let r = c.of-chains.result in
+    let k = c.of-chains.ensures in
+    record {
+      valid = last_rule (fields_of c.args.tables.now) (marked r) (told r.reach) k.chain k.leads (sym c.check_before_rings.ensures ∙ c.in_ok-check_before_rings.was) ∙ (sym c.check_fields.ensures ∙ c.in_ok-check_fields.was);
+      chain = k.chain;
+      leads = k.leads;
+    }

@@ -18,4 +18,4 @@ pub returns : goal.returns
 returns c =
     let h = c.in_ok-read.ensures in
     let k = c.in_ok-check.ensures in
-    (sym (by_rules c.args.bytes.now (vec_items c.read.new.self.file.bytes) (Ok tt) h.0 h.1 k.0), h.1, record { valid = k.0; chain = k.1; leads = k.2 })
+    (sym (by_rules c.args.bytes.now (vec_items c.read.new.self.file.bytes) (Ok tt) h.0 h.1 k.valid), h.1, k)
