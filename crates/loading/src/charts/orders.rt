@@ -1,5 +1,5 @@
 // What is derived for a chart: depth and rank of a state, the initial state of a graph, chain transitions, and which transitions, states and graphs belong together.
-ghost use Rattle.std.specs.Prelude.{◌≡◌, ◌<◌, false, [], if◌then◌else◌, Some, None, nat_eq, nat_lt};
+ghost use Rattle.std.specs.Prelude.{◌≡◌, false, [], if◌then◌else◌, Some, None, nat_eq, nat_lt};
 ghost use Rattle.groups.specs.Numbers.{those};
 ghost use Rattle.validity.specs.Chart.{rank};
 ghost use Rattle.validity.specs.Tables.{is_in};
