@@ -33,7 +33,7 @@ impl Groups {
         }
         self.starts.reserve(size)?;
         self.members.reserve(keys.len())?;
-        // Over numbers: nothing has an entry for each key yet.
+        // Over numbers: before this loop nothing has an entry for each key.
         for key in 0..size {
             self.add_group(keys, key);
         }

@@ -23,6 +23,7 @@ pub(crate) struct Site<'a> {
 
 impl<'a> Site<'a> {
     /// The field with this index, if there is one.
+    // Inlined: a call costs more than the look-up.
     #[inline(always)]
     pub fn at(tables: &'a Tables, index: usize) -> Option<Site<'a>>
         ensures { MatchOption result (length (fields_of tables.now) ≤ index) (λ s. (s.tables.now ≡ tables.now) × (s.index ≡ index)) }
