@@ -16,7 +16,7 @@ pub(crate) struct Endings<'a> {
     tables: &'a Tables,
     // What the chain transitions lead to; only the invariant speaks of it.
     reach: &'a Reach,
-    // By number of the graph, whether it may end.
+    // By number of the graph, whether it may end. An array for every chart: loading takes no memory.
     ends: [bool; 128],
     ghost ends_told: { ((g : ℕ) → g < graphs_in (fields_of tables.now) → slice_index_or ends g false ≡ graph_may_end (fields_of tables.now) (told reach.now) g) },
 }

@@ -18,7 +18,7 @@ use endings::Endings;
 /// The chain transitions of a chart, and which states they lead to which.
 #[derive(Drop)]
 pub struct Chains {
-    // By number of the transition, whether it is a chain transition.
+    // By number of the transition, whether it is a chain transition. An array for every chart: loading takes no memory.
     marks: [bool; 512],
     reach: Reach,
 }
@@ -71,6 +71,7 @@ fn chain_marks(tables: &Tables, reach: &Reach) -> [bool; 512]
 fn reach_by(tables: &Tables, marks: &[bool; 512]) -> Reach
     ensures { (x y : ℕ) → told result x y ≡ chain_leads (fields_of tables.now) (λ t. slice_index_or marks.now t false) x y }
 {
+    // An array for every chart: loading takes no memory.
     let edges: [Edge; 512] = array::from_fn(|transition| Edge {
         source: tables.source_of(transition),
         target: tables.target_of(transition),

@@ -16,7 +16,7 @@ const NO_MEMORY: u8 = 255;
 const NOT_COUNTED: u64 = 4_294_967_296;
 
 /// How a file fares: the number, layer and place of its refusal, or zeros if it is loaded. The number 255 says that there was no memory.
-// Zeros, since the C interface has no Result.
+// Zeros, since the C interface has no Result. A type of its own: that of a refusal's code has no layout of C.
 #[derive(Clone, Copy)]
 #[repr(C)]
 pub struct Outcome {

@@ -31,6 +31,7 @@ fn lets_end(tables: &Tables, state: u16, graph: usize) -> bool
 }
 
 // Whether every graph lets the state end.
+// `chains` asks the same with another test of graphs; a function for both would take a closure and ask something of its callers.
 fn all_let_end(tables: &Tables, state: u16) -> bool
     ensures { result ≡ all_of (graphs (fields_of tables.now)) (lets_end (fields_of tables.now) state) }
 {
