@@ -21,58 +21,53 @@ fn in_one_graph(tables: &Tables, source: u16, target: u16) -> bool
         && tables.graph_of(source as usize) == tables.graph_of(target as usize)
 }
 
-// Whether the transition leaves the source and is of the kind `first` or of one behind it.
-fn leaves(tables: &Tables, transition: usize, source: u16, first: TransitionKind) -> bool
-    ensures { result ≡ leaves_by (fields_of tables.now) source first transition }
-{
-    tables.source_of(transition) == source && tables.transition_kind_of(transition) >= first
+/// The transitions from a state in front of a number.
+#[derive(Clone, Copy)]
+pub(crate) struct Earlier<'a> {
+    pub tables: &'a Tables,
+    pub end: usize,
+    pub source: u16,
 }
 
-/// Whether of the transitions from the source in front of this one, one is of the kind `first` or of one behind it.
-pub(crate) fn stands_behind(
-    tables: &Tables,
-    transition: usize,
-    source: u16,
-    first: TransitionKind,
-) -> bool
-    ensures { result ≡ stands_behind (fields_of tables.now) transition source (is_from first) }
-{
-    (0..transition).any(|other| leaves(tables, other, source, first))
-}
+impl Earlier<'_> {
+    // Whether the transition leaves the state and is of the kind `first` or of one behind it.
+    fn leaves(&self, transition: usize, first: TransitionKind) -> bool
+        ensures { result ≡ leaves_by (fields_of self.now.tables.now) self.now.source first transition }
+    {
+        self.tables.source_of(transition) == self.source
+            && self.tables.transition_kind_of(transition) >= first
+    }
 
-// How the transition stands out of the order of those from its source, if it does.
-fn order_fault(
-    tables: &Tables,
-    transition: usize,
-    source: u16,
-    kind: TransitionKind,
-) -> Option<Fault>
-    ensures { result ≡ first_case (order_cases (fields_of tables.now) transition source kind) }
-{
-    let (first, fault) = match kind {
-        TransitionKind::Strong => (TransitionKind::Weak, Fault::StrongAfterWeaker),
-        TransitionKind::Weak => (TransitionKind::Normal, Fault::WeakAfterNormal),
-        TransitionKind::Normal => (TransitionKind::Normal, Fault::SecondNormal),
-    };
-    stands_behind(tables, transition, source, first).then_some(fault)
-}
+    /// Whether one of them is of the kind `first` or of one behind it.
+    pub(crate) fn has(&self, first: TransitionKind) -> bool
+        ensures { result ≡ stands_behind (fields_of self.now.tables.now) self.now.end self.now.source (is_from first) }
+    {
+        (0..self.end).any(|transition| self.leaves(transition, first))
+    }
 
-// Of the transition.
-fn transition_fault(
-    tables: &Tables,
-    transition: usize,
-    source: u16,
-    target: u16,
-    kind: TransitionKind,
-) -> Option<Fault>
-    ensures { result ≡ first_case (transition_ends (fields_of tables.now) transition source target kind) }
-{
-    if !in_one_graph(tables, source, target) {
-        Some(Fault::AcrossGraphs)
-    } else if matches!(tables.kind_of(source as usize), StateKind::Final) {
-        Some(Fault::FromFinal)
-    } else {
-        order_fault(tables, transition, source, kind)
+    // How a transition of the kind behind them stands out of order, if it does.
+    fn order_fault(&self, kind: TransitionKind) -> Option<Fault>
+        ensures { result ≡ first_case (order_cases (fields_of self.now.tables.now) self.now.end self.now.source kind) }
+    {
+        let (first, fault) = match kind {
+            TransitionKind::Strong => (TransitionKind::Weak, Fault::StrongAfterWeaker),
+            TransitionKind::Weak => (TransitionKind::Normal, Fault::WeakAfterNormal),
+            TransitionKind::Normal => (TransitionKind::Normal, Fault::SecondNormal),
+        };
+        self.has(first).then_some(fault)
+    }
+
+    // Of the transition from the state that stands behind them.
+    fn transition_fault(&self, target: u16, kind: TransitionKind) -> Option<Fault>
+        ensures { result ≡ first_case (transition_ends (fields_of self.now.tables.now) self.now.end self.now.source target kind) }
+    {
+        if !in_one_graph(self.tables, self.source, target) {
+            Some(Fault::AcrossGraphs)
+        } else if matches!(self.tables.kind_of(self.source as usize), StateKind::Final) {
+            Some(Fault::FromFinal)
+        } else {
+            self.order_fault(kind)
+        }
     }
 }
 
@@ -90,13 +85,14 @@ impl Rule for Ends {
                 target,
                 kind,
                 ..
-            } => transition_fault(
-                site.tables,
-                site.entry.transitions as usize,
-                source,
-                target,
-                kind,
-            ),
+            } => {
+                let earlier = Earlier {
+                    tables: site.tables,
+                    end: site.entry.transitions as usize,
+                    source,
+                };
+                earlier.transition_fault(target, kind)
+            }
             _ => None,
         }
     }

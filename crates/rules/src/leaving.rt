@@ -8,7 +8,7 @@ ghost use Rattle.tables.specs.Views.{fields_of};
 ghost use Rattle.rules.specs.Following.{is_trigger_if};
 
 use crate::ending::can_end;
-use crate::ends::stands_behind;
+use crate::ends::Earlier;
 use crate::rule::Rule;
 use crate::site::Site;
 use chart::fields::Field;
@@ -20,12 +20,12 @@ use validity::faults::Fault;
 fn has_normal(tables: &Tables, state: u16) -> bool
     ensures { result ≡ has_normal (fields_of tables.now) state }
 {
-    stands_behind(
+    let all = Earlier {
         tables,
-        tables.transition_count(),
-        state,
-        TransitionKind::Normal,
-    )
+        end: tables.transition_count(),
+        source: state,
+    };
+    all.has(TransitionKind::Normal)
 }
 
 // Whether of the suspensions in front of this one, one is of the state.
