@@ -35,10 +35,11 @@ impl fmt::Display for Sentence<'_> {
                 NotAllowed { tag, part }.fmt(f)
             }
             Refusal::BeyondLimit { limit, .. } => {
-                let limit = most(*limit);
+                let most = limit.most();
+                let things = things(*limit);
                 write!(
                     f,
-                    "This field is one too many: a chart has at most {limit}."
+                    "This field is one too many: a chart has at most {most} {things}."
                 )
             }
         }
@@ -122,13 +123,14 @@ fn kinds(tag: Tag) -> &'static str {
     }
 }
 
-fn most(limit: Limit) -> &'static str {
+/// What a limit is on.
+fn things(limit: Limit) -> &'static str {
     match limit {
-        Limit::Signals => "128 signals",
-        Limit::Inputs => "64 inputs",
-        Limit::States => "256 states",
-        Limit::Graphs => "128 graphs",
-        Limit::Transitions => "512 transitions",
+        Limit::Signals => "signals",
+        Limit::Inputs => "inputs",
+        Limit::States => "states",
+        Limit::Graphs => "graphs",
+        Limit::Transitions => "transitions",
     }
 }
 
