@@ -1,14 +1,15 @@
 // The last line of a listing: how many of each there are.
-ghost use Rattle.std.specs.Prelude.{◌≡◌, Some};
+ghost use Rattle.std.specs.Prelude.{◌≡◌, ◌++◌, Some, IfOk, string_bytes};
 ghost use Rattle.chart.specs.Fields.{is};
 ghost use Rattle.chart.specs.Limits.{count as counted};
 ghost use Rattle.chart.specs.Listing.{fields_in};
 ghost use Rattle.chart.specs.Stated.{stated};
 ghost use Rattle.tables.specs.Views.{fields_of};
-ghost use Rattle.verdict.specs.Texts.{summary_text, summary_in};
+ghost use Rattle.verdict.specs.Texts.{summary_text, summary_in, summary_of};
 
 use chart::fields::Placed;
 use chart::kinds::Tag;
+use std::alloc::AllocError;
 use std::fmt;
 use tables::tables::Tables;
 
@@ -66,6 +67,15 @@ impl Summary {
             suspensions: tables.suspension_count(),
         }
     }
+}
+
+/// The text, and behind it how many of each there are in the file that the tables are of.
+pub fn with_summary(mut text: String, tables: &Tables) -> Result<String, AllocError>
+    ensures { IfOk result (λ whole. string_bytes whole ≡ string_bytes text ++ summary_of (fields_of tables.now)) }
+{
+    let summary = Summary::of_tables(tables);
+    write!(text, "{summary}")?;
+    Ok(text)
 }
 
 /// How many of the fields have this tag.
