@@ -1,5 +1,5 @@
 -- Signals, states and effects as a listing shows them. Assumes nothing.
-use Rattle.std.specs.Prelude.{ℕ, List, [], ◌∷◌, ◌++◌, codes, decimal, if◌then◌else◌, nat_lt}
+use Rattle.std.specs.Prelude.{ℕ, zero, suc, List, [], ◌∷◌, ◌++◌, codes, decimal, if◌then◌else◌, nat_lt}
 use Rattle.std.specs.List.{flat_map}
 use Rattle.chart.specs.Fields.{Field}
 use Rattle.validity.specs.Tables.{signals, states}
@@ -21,3 +21,8 @@ next_shown fs n = codes ", " ++ signal_shown fs n
 abbrev pub effects_shown : List Field → List ℕ → List ℕ
 effects_shown fs [] = []
 effects_shown fs (n ∷ more) = (codes " / " ++ signal_shown fs n) ++ flat_map (next_shown fs) more
+
+-- two blanks for each level
+abbrev pub blanks : ℕ → List ℕ
+blanks zero = []
+blanks (suc n) = blanks n ++ codes "  "

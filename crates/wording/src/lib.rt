@@ -2,6 +2,7 @@
 #![tactic(auto)]
 
 pub mod effects;
+pub mod indent;
 pub mod names;
 mod section;
 pub mod sections;

@@ -29,6 +29,8 @@ fn text(bytes: &[u8]) -> &str
     from_utf8(bytes).unwrap_or("")
 }
 
+// Two types: they show differently, also where nothing has the number.
+
 /// A signal that is referred to by its number: its name, or `?7` if no signal has the number.
 #[derive(Clone, Copy)]
 pub struct SignalName<'a> {

@@ -6,6 +6,7 @@ use std::fmt;
 use tables::rows::Transition;
 use tables::tables::Tables;
 
+// A trait and no closure: to display asks nothing of the caller, a call of a closure would.
 /// What a listing tells of transitions that the tables don't.
 pub trait Marks {
     /// What stands behind the kind of the transition with this number.

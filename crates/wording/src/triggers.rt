@@ -88,6 +88,7 @@ impl fmt::Display for Infix<'_> {
         if is_loose {
             f.write_str("(")?;
         }
+        // Two arms: a function for both would take the operands, the text, and the bindings of either side.
         match symbol {
             Symbol::And => {
                 let (left, right) = in_two(operands);
@@ -144,6 +145,7 @@ fn is_expression(postfix: &[u8]) -> bool {
     postfix.iter().try_fold(0, stacked) == Some(1)
 }
 
+// The rules count with the limit of eight and refuse unknown signals; a listing shows what they refuse.
 /// How many values are stacked behind the byte, with so many in front of it; none if it lacks an operand or is no symbol.
 fn stacked(values: usize, byte: &u8) -> Option<usize> {
     match Symbol::try_from(*byte).ok()? {
