@@ -2,6 +2,7 @@
 use loading::charts::Chart;
 use std::fmt;
 use wording::effects::Effects;
+use wording::indent::Indent;
 use wording::names::state_name;
 
 /// The lines of a state and of all that is below it.
@@ -46,8 +47,8 @@ impl fmt::Display for GraphTree<'_> {
     fn fmt<W: fmt::Write>(&self, f: &mut fmt::Formatter<W>) -> fmt::Result {
         let chart = self.chart;
         let graph = self.graph;
-        let indent = Indent { depth: self.depth };
-        write!(f, "{indent}    graph {graph}:\n")?;
+        let indent = Indent { level: graph_level(self.depth) };
+        write!(f, "{indent}graph {graph}:\n")?;
         for (i, state) in chart.states_in(graph).iter().enumerate() {
             let tree = StateTree {
                 chart,
@@ -77,7 +78,8 @@ impl<'a> StateTree<'a> {
         let tables = self.chart.tables();
         let state = self.state;
         let depth = self.depth;
-        let indent = Indent { depth };
+        let level = graph_level(depth).saturating_sub(1);
+        let indent = Indent { level };
         let initial = if self.is_initial { "initial " } else { "" };
         let kind = tables.kind_of(state);
         let name = state_name(tables, state);
@@ -85,23 +87,12 @@ impl<'a> StateTree<'a> {
         let effects = Effects { tables, signals };
         write!(
             f,
-            "{indent}  {state} {initial}{kind} {name}, depth {depth}{effects}\n"
+            "{indent}{state} {initial}{kind} {name}, depth {depth}{effects}\n"
         )
     }
 }
 
-/// What stands in front of a state of this depth, and of its graphs.
-#[derive(Clone, Copy)]
-struct Indent {
-    depth: usize,
-}
-
-impl fmt::Display for Indent {
-    fn fmt<W: fmt::Write>(&self, f: &mut fmt::Formatter<W>) -> fmt::Result {
-        // The same text so many times.
-        for _ in 1..self.depth {
-            f.write_str("    ")?;
-        }
-        Ok(())
-    }
+/// How far the graphs of a state of this depth are indented; the state itself is by one level less.
+fn graph_level(depth: usize) -> usize {
+    depth.saturating_mul(2)
 }
