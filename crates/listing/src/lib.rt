@@ -10,7 +10,7 @@ use crate::outline::Outline;
 use std::alloc::{AllocError, Global};
 use tables::tables::Tables;
 use verdict::refusal_text;
-use verdict::summary::Summary;
+use verdict::summary::with_summary;
 use wording::sections::Sections;
 
 mod marks;
@@ -32,17 +32,11 @@ pub fn listing(heap: Global, bytes: &[u8]) -> Result<String, AllocError>
 fn chart_text(heap: Global, tables: &Tables) -> Result<String, AllocError>
     ensures { IfOk result (λ text. Ends (fields_of tables.now) (string_bytes text)) }
 {
-    let mut text = sections_text(heap, tables)?;
-    let summary = Summary::of_tables(tables);
-    write!(text, "{summary}")?;
-    Ok(text)
-}
-
-fn sections_text(heap: Global, tables: &Tables) -> Result<String, AllocError> {
     let sections = Sections {
         tables,
         states: Outline::new(heap, tables)?,
         marks: Unmarked,
     };
-    format!(in heap; "{sections}")
+    let text = format!(in heap; "{sections}")?;
+    with_summary(text, tables)
 }

@@ -53,7 +53,7 @@ impl<'a> Outline<'a> {
         Ok(outline)
     }
 
-    /// Adds the item at the level, and behind it what it holds, which strays no longer.
+    /// Adds the item at the level, and behind it what it holds, and takes that out of the strays.
     fn add(&mut self, item: Item, level: usize) -> Result<(), AllocError>
         ensures { vec_len self.new.strays ≤ vec_len self.old.strays }
     {

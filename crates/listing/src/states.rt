@@ -3,16 +3,29 @@ use crate::outline::{Item, Node, Outline};
 use std::fmt;
 use tables::tables::Tables;
 use wording::effects::Effects;
+use wording::indent::Indent;
 use wording::names::state_name;
 
 impl fmt::Display for Outline<'_> {
     fn fmt<W: fmt::Write>(&self, f: &mut fmt::Formatter<W>) -> fmt::Result {
+        self.write_nodes(f)?;
+        self.write_strays(f)
+    }
+}
+
+impl Outline<'_> {
+    fn write_nodes<W: fmt::Write>(&self, f: &mut fmt::Formatter<W>) -> fmt::Result {
         let tables = self.tables;
         for node in &self.nodes {
             let node = *node;
             let line = NodeLine { tables, node };
             write!(f, "{line}\n")?;
         }
+        Ok(())
+    }
+
+    fn write_strays<W: fmt::Write>(&self, f: &mut fmt::Formatter<W>) -> fmt::Result {
+        let tables = self.tables;
         if !self.strays.is_empty() {
             f.write_str("  not under state 0:\n")?;
         }
@@ -34,11 +47,9 @@ struct NodeLine<'a> {
 
 impl fmt::Display for NodeLine<'_> {
     fn fmt<W: fmt::Write>(&self, f: &mut fmt::Formatter<W>) -> fmt::Result {
-        // The same text so many times.
-        for _ in 0..self.node.level {
-            f.write_str("  ")?;
-        }
-        match self.node.item {
+        let Node { item, level } = self.node;
+        let indent = Indent { level };
+        match item {
             Item::State(number) => {
                 let initial = if is_initial(self.tables, number) {
                     "initial "
@@ -48,9 +59,9 @@ impl fmt::Display for NodeLine<'_> {
                 let kind = self.tables.kind_of(number);
                 let name = state_name(self.tables, number);
                 let effects = sustained(self.tables, number);
-                write!(f, "{number} {initial}{kind} {name}{effects}")
+                write!(f, "{indent}{number} {initial}{kind} {name}{effects}")
             }
-            Item::Graph(number) => write!(f, "graph {number}:"),
+            Item::Graph(number) => write!(f, "{indent}graph {number}:"),
         }
     }
 }

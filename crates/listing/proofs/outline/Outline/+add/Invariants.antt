@@ -1,7 +1,7 @@
 use Rattle.std.proofs.Common.{◌+◌, ◌≤◌, length, vec_len}
 use Rattle.listing.proofs.outline.Outline.+add.Given as goal
 
--- what is added strays no longer
+-- what is added is no stray
 abbrev pub decreases-add : goal.decreases-add
 decreases-add l = vec_len l.self.now.strays
 
