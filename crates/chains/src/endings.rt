@@ -41,7 +41,7 @@ impl<'a> Endings<'a> {
         let kind = self.tables.transition_kind_of(transition);
         self.tables.is_immediate(transition)
             || matches!(kind, TransitionKind::Normal)
-                && self.may_end(self.tables.source_of(transition) as usize)
+                && self.may_end(usize::from(self.tables.source_of(transition)))
     }
 
     // Each graph of the macrostate may end.
@@ -57,7 +57,7 @@ impl<'a> Endings<'a> {
         requires { graph < graphs_in (fields_of self.now.tables.now) }
         ensures { result ≡ lets_end (fields_of self.now.tables.now) (graph_may_end (fields_of self.now.tables.now) (told self.now.reach.now)) state graph }
     {
-        self.tables.owner_of(graph) as usize != state || self.ends[graph]
+        usize::from(self.tables.owner_of(graph)) != state || self.ends[graph]
     }
 }
 

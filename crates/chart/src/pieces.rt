@@ -32,7 +32,7 @@ pub(crate) fn cut(bytes: &[u8], place: usize) -> Result<Piece<'_>, Refusal>
     let [tag, high, low, rest @ ..] = bytes else {
         return Err(Refusal::CutShort { place });
     };
-    let size = word(*high, *low) as usize;
+    let size = usize::from(word(*high, *low));
     let contents = rest.get(..size).ok_or(Refusal::CutShort { place })?;
     Ok(Piece {
         code: *tag,

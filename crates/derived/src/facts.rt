@@ -42,7 +42,7 @@ fn suspension_of(tables: &Tables, state: usize) -> Option<Span>
     ensures { result ≡ suspension_span (fields_of tables.now) state }
 {
     (0..tables.suspension_count())
-        .find(|suspension| tables.suspended_by(*suspension) as usize == state)
+        .find(|suspension| usize::from(tables.suspended_by(*suspension)) == state)
         .and_then(|suspension| tables.suspension_trigger(suspension))
 }
 

@@ -19,5 +19,5 @@ pub fn depth(tables: &Tables, state: usize) -> usize
 fn state_around(tables: &Tables, state: usize) -> Option<usize>
     ensures { result ≡ (if nat_eq state 0 then None else Some (owner_of (fields_of tables.now) (graph_of (fields_of tables.now) state))) }
 {
-    (state != 0).then(|| tables.owner_of(tables.graph_of(state) as usize) as usize)
+    (state != 0).then(|| usize::from(tables.owner_of(usize::from(tables.graph_of(state)))))
 }

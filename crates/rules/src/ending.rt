@@ -42,5 +42,5 @@ fn all_let_end(tables: &Tables, state: u16) -> bool
 pub(crate) fn can_end(tables: &Tables, state: u16) -> bool
     ensures { result ≡ can_end (fields_of tables.now) state }
 {
-    matches!(tables.kind_of(state as usize), StateKind::Macro) && all_let_end(tables, state)
+    matches!(tables.kind_of(usize::from(state)), StateKind::Macro) && all_let_end(tables, state)
 }

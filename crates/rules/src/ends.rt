@@ -18,7 +18,7 @@ fn in_one_graph(tables: &Tables, source: u16, target: u16) -> bool
 {
     source != 0
         && target != 0
-        && tables.graph_of(source as usize) == tables.graph_of(target as usize)
+        && tables.graph_of(usize::from(source)) == tables.graph_of(usize::from(target))
 }
 
 /// The transitions from a state in front of a number.
@@ -63,7 +63,10 @@ impl Earlier<'_> {
     {
         if !in_one_graph(self.tables, self.source, target) {
             Some(Fault::AcrossGraphs)
-        } else if matches!(self.tables.kind_of(self.source as usize), StateKind::Final) {
+        } else if matches!(
+            self.tables.kind_of(usize::from(self.source)),
+            StateKind::Final
+        ) {
             Some(Fault::FromFinal)
         } else {
             self.order_fault(kind)
@@ -88,7 +91,7 @@ impl Rule for Ends {
             } => {
                 let earlier = Earlier {
                     tables: site.tables,
-                    end: site.entry.transitions as usize,
+                    end: usize::from(site.entry.transitions),
                     source,
                 };
                 earlier.transition_fault(target, kind)

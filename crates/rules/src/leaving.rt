@@ -85,7 +85,7 @@ fn suspension_fault(site: &Site<'_>, suspension: usize, state: u16) -> Option<Fa
 {
     if state == 0 {
         Some(Fault::RootSuspended)
-    } else if matches!(site.tables.kind_of(state as usize), StateKind::Final) {
+    } else if matches!(site.tables.kind_of(usize::from(state)), StateKind::Final) {
         Some(Fault::FinalSuspended)
     } else if is_suspended_before(site.tables, suspension, state) {
         Some(Fault::SecondSuspension)
@@ -111,7 +111,7 @@ impl Rule for Leaving {
                 ..
             } => transition_fault(site, source, kind, immediate),
             Field::Suspension { state } => {
-                suspension_fault(site, site.entry.suspensions as usize, state)
+                suspension_fault(site, usize::from(site.entry.suspensions), state)
             }
             _ => None,
         }

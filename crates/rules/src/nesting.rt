@@ -17,7 +17,7 @@ const DEEPEST: usize = 8;
 fn owns_none(tables: &Tables, state: usize) -> bool
     ensures { result ≡ owns_none (fields_of tables.now) state }
 {
-    !(0..tables.graph_count()).any(|graph| tables.owner_of(graph) as usize == state)
+    !(0..tables.graph_count()).any(|graph| usize::from(tables.owner_of(graph)) == state)
 }
 
 // Whether no state stands in the graph.
@@ -45,7 +45,7 @@ fn state_fault(tables: &Tables, state: usize, kind: StateKind) -> Option<Fault>
 fn graph_fault(tables: &Tables, graph: usize, owner: u16) -> Option<Fault>
     ensures { result ≡ first_case (graph_nesting (fields_of tables.now) graph owner) }
 {
-    match tables.kind_of(owner as usize) {
+    match tables.kind_of(usize::from(owner)) {
         StateKind::Macro => is_empty(tables, graph).then_some(Fault::EmptyGraph),
         StateKind::Simple | StateKind::Final => Some(Fault::OwnerNotMacro),
     }
@@ -64,8 +64,8 @@ impl Rule for Nesting {
             return Some(Fault::NoState);
         }
         match site.field {
-            Field::State { kind, .. } => state_fault(tables, site.entry.states as usize, kind),
-            Field::Graph { owner } => graph_fault(tables, site.entry.graphs as usize, owner),
+            Field::State { kind, .. } => state_fault(tables, usize::from(site.entry.states), kind),
+            Field::Graph { owner } => graph_fault(tables, usize::from(site.entry.graphs), owner),
             _ => None,
         }
     }

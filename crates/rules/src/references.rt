@@ -26,13 +26,13 @@ fn is_unknown_graph(entry: Entry, graph: u16) -> bool
 fn is_unknown_state(tables: &Tables, state: u16) -> bool
     ensures { result ≡ unknown_state (fields_of tables.now) state }
 {
-    state as usize >= tables.state_count()
+    usize::from(state) >= tables.state_count()
 }
 
 fn is_signal(tables: &Tables, number: u8) -> bool
     ensures { result ≡ is_signal_number (fields_of tables.now) number }
 {
-    (number as usize) < tables.signal_count()
+    usize::from(number) < tables.signal_count()
 }
 
 // Whether each number is that of a signal.
@@ -48,7 +48,7 @@ fn are_no_inputs(tables: &Tables, signals: &[u8]) -> bool
 {
     signals
         .iter()
-        .all(|signal| !tables.is_input(*signal as usize))
+        .all(|signal| !tables.is_input(usize::from(*signal)))
 }
 
 fn transition_fault(tables: &Tables, source: u16, target: u16) -> Option<Fault>

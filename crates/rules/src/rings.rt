@@ -16,8 +16,8 @@ impl Rule for Chains {
     fn fault(&self, site: &Site<'_>) -> Option<Fault> {
         match site.field {
             Field::Transition { source, target, .. } => {
-                let is_on_ring = self.is_chain(site.entry.transitions as usize)
-                    && (target == source || self.leads(target as usize, source as usize));
+                let is_on_ring = self.is_chain(usize::from(site.entry.transitions))
+                    && (target == source || self.leads(usize::from(target), usize::from(source)));
                 is_on_ring.then_some(Fault::OnRing)
             }
             _ => None,

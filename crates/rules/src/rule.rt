@@ -41,7 +41,7 @@ fn invalid_at<R: Rule>(rule: &R, tables: &Tables, index: usize) -> Option<Invali
     let site = Site::at(tables, index)?;
     let fault = rule.fault(&site)?;
     Some(Invalid {
-        place: site.entry.place as usize,
+        place: usize::from(site.entry.place),
         fault,
     })
 }

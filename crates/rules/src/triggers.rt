@@ -39,7 +39,7 @@ fn stacked(signals: usize, byte: u8, values: usize) -> Result<usize, Fault>
     ensures { result ≡ stacked_by signals byte values }
 {
     match Symbol::try_from(byte) {
-        Ok(Symbol::Signal(number)) if (number as usize) < signals => push(values),
+        Ok(Symbol::Signal(number)) if usize::from(number) < signals => push(values),
         Ok(Symbol::And | Symbol::Or) => operate(values, 1),
         Ok(Symbol::Not) => operate(values, 0),
         Ok(Symbol::Yes) => push(values),

@@ -47,7 +47,9 @@ impl fmt::Display for GraphTree<'_> {
     fn fmt<W: fmt::Write>(&self, f: &mut fmt::Formatter<W>) -> fmt::Result {
         let chart = self.chart;
         let graph = self.graph;
-        let indent = Indent { level: graph_level(self.depth) };
+        let indent = Indent {
+            level: graph_level(self.depth),
+        };
         write!(f, "{indent}graph {graph}:\n")?;
         for (i, state) in chart.states_in(graph).iter().enumerate() {
             let tree = StateTree {

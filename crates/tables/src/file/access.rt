@@ -34,6 +34,6 @@ impl ChartFile {
         ensures { stated_if result ≡ lookup (fields_in self.now) index }
     {
         let entry = self.entry(index)?;
-        field_at(&self.bytes, entry.place as usize)
+        field_at(&self.bytes, usize::from(entry.place))
     }
 }

@@ -149,6 +149,6 @@ impl Tables {
     pub fn is_in(&self, graph: usize, state: usize) -> bool
         ensures { result ≡ is_in (fields_of self.now) graph state }
     {
-        state != 0 && self.graph_of(state) as usize == graph
+        state != 0 && usize::from(self.graph_of(state)) == graph
     }
 }

@@ -12,8 +12,8 @@ impl Tables {
     pub fn bytes(&self, span: Span) -> &[u8]
         ensures { result.now ≡ spanned self.now.file.bytes.items span }
     {
-        let start = span.start as usize;
-        let end = start + span.length as usize;
+        let start = usize::from(span.start);
+        let end = start + usize::from(span.length);
         self.file.bytes().get(start..end).unwrap_or(&[])
     }
 

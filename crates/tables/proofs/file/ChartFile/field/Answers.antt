@@ -9,5 +9,6 @@ returns c =
     let f = c.args.self.now in
     let e = c.in_ok-entry.entry in
     c.field_at.ensures
+    ∙ ap (field_at c.deref.result.now) c.from.ensures
     ∙ ap (λ b. field_at b e.place) c.deref.ensures.value
     ∙ looked_up (vec_items f.bytes) (fields_in f) f.row f.passed c.args.index e c.in_ok-entry.ensures
