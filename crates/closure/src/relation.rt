@@ -8,6 +8,7 @@ use crate::Edge;
 use crate::row::Row;
 
 /// Steps between numbers below a size: the row of x holds what a step leads to from x.
+// An array with a size: loading takes no memory.
 #[derive(Drop)]
 pub(crate) struct Relation {
     pub(crate) rows: [Row; 256],
