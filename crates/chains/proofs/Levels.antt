@@ -12,7 +12,7 @@ use Rattle.validity.specs.Closure.{leads}
 use Rattle.validity.specs.Parts.{no_edge as not_joined, edge_in, is_normal, at}
 use Rattle.validity.specs.Ranges.{any_of, row, kept}
 use Rattle.validity.specs.Tables.{states, transitions, transition_index, source_of, target_of, chain_step, chain_leads, may_end, is_chain_by, chain_within, is_chain}
-use Rattle.validity.proofs.Closed.{kept_at, leads_same}
+use Rattle.validity.proofs.Closed.{row_out, kept_at, leads_same}
 use Rattle.validity.proofs.Folds.{any_of_same}
 use Rattle.tables.proofs.Beyond.{beyond}
 use Rattle.chains.specs.Marks.{marked}
@@ -20,19 +20,13 @@ use Rattle.chains.specs.declared.Chains.{Chains}
 
 -- Beyond the transitions there is no chain transition.
 
-row_out : (n : ℕ) (f : ℕ → Bool) (k : ℕ) → n ≤ k → get_or (row n f) k false ≡ false
-row_out zero f zero l = refl
-row_out zero f (suc k) l = refl
-row_out (suc n) f zero l = absurd (omega arith)
-row_out (suc n) f (suc k) l = row_out n (λ i. f (suc i)) k (omega arith)
-
 module _ (fs : List Field) where
   joins_none : (t : ℕ) → transitions fs ≤ t → not_joined ≡ edge_in (at fs (transition_index fs t))
   joins_none t l = ap edge_in (beyond (is Transition) fs t l)
 
   pub none_beyond : (n t : ℕ) → transitions fs ≤ t → chain_within fs n t ≡ false
   none_beyond zero t l = sym (ap (λ e. e.immediate) (joins_none t l))
-  none_beyond (suc n) t l = row_out (transitions fs) (is_chain_by fs (chain_leads fs (chain_within fs n))) t l
+  none_beyond (suc n) t l = row_out (transitions fs) (is_chain_by fs (chain_leads fs (chain_within fs n))) t false l
 
   pub none_by : (leads_to : ℕ → ℕ → Bool) (t : ℕ) → transitions fs ≤ t → is_chain_by fs leads_to t ≡ false
   none_by leads_to t l = sym (ap (λ e. e.immediate || cond (is_normal e.kind) (may_end fs leads_to e.source) false) (joins_none t l))

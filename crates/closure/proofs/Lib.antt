@@ -1,4 +1,4 @@
-mod Made
+pub mod Made
 mod Words
 mod Added
 mod Rounds

@@ -24,11 +24,6 @@ looked_up b fs row bytes i e h = go (ltb i (length fs)) refl
         let none : Some e ≡ None = h ∙ ap (λ t. cond t (Some (entry_at fs i)) None) l in
         absurd (grind arith)
 
-pub at_behind : (fs : List Field) (i : ℕ) → length fs ≤ i → graph 0 ≡ at fs i
-at_behind [] i l = refl
-at_behind (f ∷ fs) zero l = absurd (omega arith)
-at_behind (f ∷ fs) (suc i) l = at_behind fs i (omega arith)
-
 bytes_few : (f : Field) → length (bytes_in f) ≤ length (contents f)
 bytes_few (signal k name) = omega arith
 bytes_few (state g k name) = omega arith

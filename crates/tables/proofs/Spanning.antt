@@ -7,12 +7,11 @@ use Rattle.chart.proofs.Places.{place_below, signal_name_at, state_name_at, trig
 use Rattle.validity.specs.Parts.{bytes_in, number_in, state_kind_in, index_of, at}
 use Rattle.validity.specs.Tables.{trigger_at, effects_at, transition_index, trigger_of, emitted_by, state_index, sustained_by}
 use Rattle.validity.proofs.Bools.{clash}
-use Rattle.validity.proofs.Numbers.{found, inside, as_state, as_trigger, as_effects}
+use Rattle.validity.proofs.Numbers.{at_behind, found, inside, as_state, as_trigger, as_effects}
 use Rattle.tables.specs.declared.rows.Span.{Span}
 use Rattle.tables.specs.Rows.{signal_kind_in, span_at, trigger_span_at, effects_span_at, transition_row, no_span}
 use Rattle.tables.specs.Spans.{spanned, spanned_if, spanned_or}
 use Rattle.tables.proofs.Beyond.{index_behind}
-use Rattle.tables.proofs.Looking.{at_behind}
 
 as_signal : (f : Field) → is Signal f ≡ true → f ≡ signal (signal_kind_in f) (bytes_in f)
 as_signal (signal k name) h = refl
@@ -91,7 +90,7 @@ module _ (b : List ℕ) (fs : List Field) (bytes : encode_all fs ≡ b) where
 module _ (fs : List Field) where
   none_there : (i : ℕ) → length fs ≤ i → (trigger_at fs i ≡ None) × (effects_at fs i ≡ [])
   none_there i l =
-      let e = sym (at_behind fs i l) in
+      let e = at_behind fs i l in
       (ap (λ f. cond (is Trigger f) (Some (bytes_in f)) None) e, ap (λ f. cond (is Effects f) (bytes_in f) []) e)
 
   pub no_trigger : (t : ℕ) → count (is Transition) fs ≤ t → None ≡ trigger_of fs t
@@ -100,12 +99,12 @@ module _ (fs : List Field) where
   pub no_span_lem : (p : Field → Bool) (n : ℕ) → count p fs ≤ n → None ≡ trigger_span_at fs (suc (index_of p fs n))
   no_span_lem p n l =
       let far = index_behind p fs n l in
-      ap (λ f. cond (is Trigger f) (Some (span_at fs 3 (suc (index_of p fs n)))) None) (at_behind fs (suc (index_of p fs n)) (omega arith))
+      ap (λ f. cond (is Trigger f) (Some (span_at fs 3 (suc (index_of p fs n)))) None) (sym (at_behind fs (suc (index_of p fs n)) (omega arith)))
 
   pub none_emitted : (t : ℕ) → count (is Transition) fs ≤ t → [] ≡ emitted_by fs t
   none_emitted t l =
       let far = index_behind (is Transition) fs t l in
-      let e = sym (at_behind fs (suc (transition_index fs t)) (omega arith)) in
+      let e = at_behind fs (suc (transition_index fs t)) (omega arith) in
       sym (ap (λ f. cond (is Trigger f) (effects_at fs (suc (suc (transition_index fs t)))) (effects_at fs (suc (transition_index fs t)))) e ∙ (none_there (suc (transition_index fs t)) (omega arith)).1)
 
   pub none_sustained : (s : ℕ) → count (is State) fs ≤ s → [] ≡ sustained_by fs s

@@ -7,8 +7,8 @@ use Rattle.chart.specs.Fields.{Field, graph, is, tag_of}
 use Rattle.chart.specs.Kinds.{tag_code, tag_from}
 use Rattle.chart.proofs.Forms.{tag_back}
 use Rattle.validity.specs.Parts.{at}
+use Rattle.validity.proofs.Numbers.{at_behind}
 use Rattle.tables.specs.Rows.{span_at, tagged_span_at}
-use Rattle.tables.proofs.Looking.{at_behind}
 
 codes_apart : (t u : Tag) → tag_code t ≡ tag_code u → t ≡ u
 codes_apart t u e = let same : Some t ≡ Some u = sym (tag_back t) ∙ ap tag_from e ∙ tag_back u in cc
@@ -28,5 +28,5 @@ module _ (fs : List Field) (t : Tag) (i : ℕ) where
   -- Behind the last field nothing has the tag.
   pub none_tagged : length fs ≤ i → is t (graph 0) ≡ false → None ≡ tagged_span_at fs t i
   none_tagged l other =
-      let none : is t (at fs i) ≡ false = ap (is t) (sym (at_behind fs i l)) ∙ other in
+      let none : is t (at fs i) ≡ false = ap (is t) (at_behind fs i l) ∙ other in
       sym (ap (λ b. cond b (Some (span_at fs 3 i)) None) none)

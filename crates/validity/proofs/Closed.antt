@@ -11,7 +11,7 @@ row_at zero f k d l = absurd (omega arith)
 row_at (suc n) f zero d l = refl
 row_at (suc n) f (suc k) d l = row_at n (λ i. f (suc i)) k d (omega arith)
 
-row_out : {A : Type 0} (n : ℕ) (f : ℕ → A) (k : ℕ) (d : A) → n ≤ k → get_or (row n f) k d ≡ d
+pub row_out : {A : Type 0} (n : ℕ) (f : ℕ → A) (k : ℕ) (d : A) → n ≤ k → get_or (row n f) k d ≡ d
 row_out zero f zero d l = refl
 row_out zero f (suc k) d l = refl
 row_out (suc n) f zero d l = absurd (omega arith)

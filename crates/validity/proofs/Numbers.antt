@@ -119,7 +119,7 @@ as_effects (suspension s) h = absurd (clash h refl)
 as_effects (trigger p) h = absurd (clash h refl)
 as_effects (effects e) h = refl
 
-at_behind : (fs : List Field) (i : ℕ) → length fs ≤ i → at fs i ≡ graph 0
+pub at_behind : (fs : List Field) (i : ℕ) → length fs ≤ i → at fs i ≡ graph 0
 at_behind [] zero l = refl
 at_behind [] (suc i) l = refl
 at_behind (f ∷ fs) zero l = absurd (omega arith)

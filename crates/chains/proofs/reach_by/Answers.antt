@@ -5,7 +5,7 @@ use Rattle.closure.specs.Edges.{no_edge}
 use Rattle.validity.specs.Tables.{source_of, target_of}
 use Rattle.tables.specs.Views.{fields_of}
 use Rattle.tables.proofs.Within.{row_within}
-use Rattle.chains.proofs.Found.{made_at}
+use Rattle.closure.proofs.Made.{made}
 use Rattle.chains.proofs.Levels.{reach_is}
 use Rattle.chains.proofs.reach_by.Goals as goal
 
@@ -30,5 +30,5 @@ returns c =
     let edge : ℕ → Edge = λ t. record { source = source_of fs t; target = target_of fs t; marked = chain t } in
     let enough : n ≤ length edges = omega (arith, few.transitions, c.from_fn-edges.ensures.items.long, c.transition_count.ensures) in
     reach_is fs edges chain n c.transition_count.ensures (sym (length-take-le n edges enough))
-    (λ t l. made_at _ _ _ edge (λ i y q k. search rules) no_edge 512 c.from_fn-edges.ensures.items t (omega (arith, few.transitions, c.transition_count.ensures)))
+    (λ t l. made c.from_fn-edges.ensures.items edge no_edge (λ i y q k. search rules) t (omega (arith, few.transitions, c.transition_count.ensures)))
     c.state_count.result c.of.result c.state_count.ensures few.states c.of.ensures

@@ -3,7 +3,7 @@ use Rattle.closure.specs.Rows.{told}
 use Rattle.validity.specs.Tables.{graph_may_end}
 use Rattle.tables.specs.Views.{fields_of}
 use Rattle.tables.proofs.Within.{row_within}
-use Rattle.chains.proofs.Found.{made_at}
+use Rattle.closure.proofs.Made.{made}
 use Rattle.chains.proofs.endings.Endings.of.Goals as goal
 
 pub invariant_of-result : goal.invariant_of-result
@@ -14,6 +14,6 @@ invariant_of-result c =
     let few = (row_within fs c.args.tables.now.file.row).graphs in
     record {
       ends_told = λ g l.
-          made_at _ _ _ (λ g. ltb g n && ends g) (λ i y q k. search (rules, tests)) false 128 c.from_fn-ends.ensures.items g (omega (arith, few))
+          made c.from_fn-ends.ensures.items (λ g. ltb g n && ends g) false (λ i y q k. search (rules, tests)) g (omega (arith, few))
           ∙ ap (λ b. b && ends g) (lt-ltb g n (omega (arith, c.graph_count-graphs.ensures)));
     }
