@@ -1,5 +1,5 @@
 -- The chain transitions level by level, and what they lead to.
-use Rattle.std.proofs.Common.{◌≡◌, ℕ, zero, suc, ◌+◌, ◌-◌, ◌<◌, ◌≤◌, min, Bool, false, ◌&&◌, ◌||◌, cond, eqb, List, length, take, get_or, sym, refl, ap, ◌∙◌, arith, le-ltb, lt-ltb}
+use Rattle.std.proofs.Common.{◌≡◌, ℕ, zero, suc, ◌+◌, ◌-◌, ◌<◌, ◌≤◌, min, Bool, false, ◌&&◌, ◌||◌, cond, eqb, List, length, take, get_or, sym, ap, ◌∙◌, arith, le-ltb, lt-ltb}
 use Rattle.std.proofs.lemmas.List.{get_or-take}
 use native.Mathlib.Decide.{dec_lt}
 use Rattle.chart.specs.declared.kinds.Tag.TheVariants.{Transition}
@@ -10,7 +10,7 @@ use Rattle.closure.specs.Edges.{no_edge, edge_steps}
 use Rattle.closure.specs.Rows.{told}
 use Rattle.validity.specs.Closure.{leads}
 use Rattle.validity.specs.Parts.{no_edge as not_joined, edge_in, is_normal, at}
-use Rattle.validity.specs.Ranges.{any_of, row, kept}
+use Rattle.validity.specs.Ranges.{any_of, kept}
 use Rattle.validity.specs.Tables.{states, transitions, transition_index, source_of, target_of, chain_step, chain_leads, may_end, is_chain_by, chain_within, is_chain}
 use Rattle.validity.proofs.Closed.{row_out, kept_at, leads_same}
 use Rattle.validity.proofs.Folds.{any_of_same}

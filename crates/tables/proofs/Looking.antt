@@ -1,5 +1,5 @@
 -- Fields looked up where their entries tell.
-use Rattle.std.proofs.Common.{◌≡◌, ℕ, zero, suc, ◌<◌, ◌≤◌, Bool, true, false, cond, ltb, List, [], ◌∷◌, length, Some, None, sym, refl, ap, ◌∙◌, arith, ltb-true, lt-ltb}
+use Rattle.std.proofs.Common.{◌≡◌, ℕ, ◌<◌, ◌≤◌, Bool, true, false, cond, ltb, List, length, Some, None, sym, refl, ap, ◌∙◌, arith, ltb-true, lt-ltb}
 use Rattle.chart.specs.Fields.{Field, signal, state, graph, transition, suspension, trigger, effects, contents, encode_all, place_at}
 use Rattle.chart.specs.Files.{is_row}
 use Rattle.chart.specs.Lookup.{field_at}

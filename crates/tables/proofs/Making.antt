@@ -1,5 +1,5 @@
 -- Rows made of fields.
-use Rattle.std.proofs.Common.{◌≡◌, ℕ, suc, ◌+◌, Bool, true, false, cond, List, Some, None, Option, sym, refl, ap, ◌∙◌, arith}
+use Rattle.std.proofs.Common.{◌≡◌, ℕ, suc, ◌+◌, Bool, true, false, cond, List, Some, None, Option, refl, ap, ◌∙◌, arith}
 use Rattle.std.specs.Option.{is_some}
 use Rattle.chart.specs.declared.kinds.Tag as tag
 use Rattle.chart.specs.declared.kinds.StateKind.{StateKind}
