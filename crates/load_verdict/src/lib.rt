@@ -13,6 +13,7 @@ use verdict::refusals;
 mod faults;
 mod sentences;
 
+// One line for each type of refusal; what they share is refusals::text.
 /// The number, layer and place of a refusal, and behind them a sentence on it.
 pub fn refusal_text(heap: Global, refusal: &Refusal) -> Result<String, AllocError>
     ensures { IfOk result (λ text. Begins (code_of refusal.now) (string_bytes text)) }
