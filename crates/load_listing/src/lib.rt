@@ -10,16 +10,14 @@ ghost use Rattle.verdict.specs.Texts.{Ends};
 use load_verdict::refusal_text;
 use loading::charts::Chart;
 use std::alloc::{AllocError, Global};
-use verdict::summary::Summary;
+use verdict::summary::with_summary;
 
 /// All that is in a chart, and at the end how much it is.
 pub fn listing(heap: Global, chart: &Chart) -> Result<String, AllocError>
     ensures { IfOk result (λ text. Ends (fields_for chart.now) (string_bytes text)) }
 {
-    let mut text = sections::all(heap, chart)?;
-    let summary = Summary::of_tables(chart.tables());
-    write!(text, "{summary}")?;
-    Ok(text)
+    let text = sections::all(heap, chart)?;
+    with_summary(text, chart.tables())
 }
 
 /// Loads the bytes into the chart, and gives its listing, or says why they are refused.
