@@ -18,40 +18,22 @@ where
     F: FnOnce(Global, &[u8]) -> Result<String, AllocError>,
     requires { F.IsAlwaysCallable listing }
 {
-    match run(rt, listing) {
+    let Ok(first) = first_argument(rt) else {
+        return ExitCode::FAILURE;
+    };
+    let path = first.as_ref().map_or(DEFAULT, |path| path.as_str());
+    match print(rt, path, listed(rt, path, listing)) {
         Ok(()) => ExitCode::SUCCESS,
         Err(_) => ExitCode::FAILURE,
     }
 }
 
-fn run<R, F>(rt: &R, listing: F) -> io::Result<()>
-where
-    R: Env + Files + Print + Eprint + AllocGlobal,
-    F: FnOnce(Global, &[u8]) -> Result<String, AllocError>,
-    requires { F.IsAlwaysCallable listing }
-{
+/// The first argument, if there is one.
+fn first_argument<R: Env + Eprint + AllocGlobal>(rt: &R) -> io::Result<Option<String>> {
     match env::args(rt) {
-        Ok(mut args) => match args.nth(1) {
-            Some(path) => print_listing(rt, path.as_str(), listing),
-            None => print_listing(rt, DEFAULT, listing),
-        },
+        Ok(mut args) => Ok(args.nth(1)),
         Err(error) => {
             eprintln!(rt; "the arguments cannot be read: {error}")?;
-            Err(error)
-        }
-    }
-}
-
-fn print_listing<R, F>(rt: &R, path: &str, listing: F) -> io::Result<()>
-where
-    R: Files + Print + Eprint + AllocGlobal,
-    F: FnOnce(Global, &[u8]) -> Result<String, AllocError>,
-    requires { F.IsAlwaysCallable listing }
-{
-    match listed(rt, path, listing) {
-        Ok(text) => rt.print(text),
-        Err(error) => {
-            eprintln!(rt; "{path} cannot be listed: {error}")?;
             Err(error)
         }
     }
@@ -66,4 +48,14 @@ where
     let bytes = fs::read(rt, path)?;
     let text = listing(rt.alloc(), bytes.as_slice())?;
     Ok(text)
+}
+
+fn print<R: Print + Eprint>(rt: &R, path: &str, text: io::Result<String>) -> io::Result<()> {
+    match text {
+        Ok(text) => rt.print(text),
+        Err(error) => {
+            eprintln!(rt; "{path} cannot be listed: {error}")?;
+            Err(error)
+        }
+    }
 }
