@@ -22,7 +22,7 @@ where
         if let Some((name, text)) = case_in(line.as_str()) {
             let told = match file_of(heap, text) {
                 Ok(file) => report(name, file.as_slice())?,
-                Err(error) => unread(heap, name, error)?,
+                Err(error) => unread_text(heap, name, error)?,
             };
             rt.println(told)?;
         }
@@ -37,7 +37,7 @@ fn case_in(line: &str) -> Option<(&str, &str)> {
 }
 
 /// What is printed for a case whose file cannot be read.
-fn unread(heap: Global, name: &str, error: CaseError) -> Result<String, AllocError> {
+fn unread_text(heap: Global, name: &str, error: CaseError) -> Result<String, AllocError> {
     match error {
         CaseError::NotACase => format!(in heap; "{name}: not a case"),
         CaseError::Memory(error) => Err(error),
