@@ -13,7 +13,7 @@ use relation::Relation;
 use row::Row;
 
 /// An edge from one number to another; only marked ones are steps.
-// The mark is a field: a caller lends an array of all its edges, and none has to be copied into room for those that count.
+// The mark is a field and no `Option`: the definitions of steps read the ends of each edge, marked or not.
 #[derive(Clone, Copy)]
 pub struct Edge {
     pub source: u16,
