@@ -32,7 +32,7 @@ pub(crate) fn file_of(heap: Global, text: &str) -> Result<Vec<u8>, CaseError> {
 fn add_part(heap: Global, file: &mut Vec<u8>, part: &str) -> Result<(), CaseError> {
     let (times, text) = repeated(part)?;
     let bytes = bytes_of(heap, text)?;
-    // The same bytes so many times.
+    // A loop: there may be no memory for each.
     for _ in 0..times {
         file.extend_from_slice(bytes.as_slice())?;
     }

@@ -2,6 +2,7 @@
 ghost use Rattle.std.specs.Prelude.{◌≡◌};
 ghost use Rattle.derived.specs.Columns.{facts_at, depth_at, suspension_at, rank_at, initial_at, chain_at, outgoing_at, incoming_at, members_at, owned_at};
 
+// Numbers and no `Option`: these can't fail, as the accessors of the tables can't.
 use crate::Derived;
 use crate::facts::StateFacts;
 use tables::rows::Span;

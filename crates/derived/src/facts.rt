@@ -29,6 +29,7 @@ impl StateFacts {
         ensures suspension { result.suspension ≡ suspension_span (fields_of tables.now) state }
         ensures rank { result.rank ≡ count_of (states_in (fields_of tables.now)) (λ x. told chains.now.reach x state) }
     {
+        // There are at most 256 states, so nothing is lost.
         StateFacts {
             depth: depth(tables, state) as u16,
             suspension: suspension_of(tables, state),
@@ -36,6 +37,8 @@ impl StateFacts {
         }
     }
 }
+
+// These take the tables and the number of what they ask about. A struct for each such pair would only wrap it.
 
 // Where the trigger of the first suspension of the state stands.
 fn suspension_of(tables: &Tables, state: usize) -> Option<Span>
@@ -57,6 +60,7 @@ fn rank(chains: &Chains, count: usize, state: usize) -> usize
 pub(crate) fn initial_of(tables: &Tables, graph: usize) -> u16
     ensures { result ≡ initial_of (fields_of tables.now) graph }
 {
+    // There are at most 256 states, so nothing is lost.
     initial_state(tables, graph) as u16
 }
 

@@ -84,5 +84,6 @@ fn load(chart: &mut Chart, bytes: &[u8]) -> Outcome
 fn count_loads(chart: &mut Chart, bytes: &[u8], times: u32) -> u64
     ensures { result ≡ accepted times (loading bytes.now) }
 {
+    // There is no `From` to `u64` from `usize`.
     (0..times).filter(|_turn| chart.load(bytes).is_ok()).count() as u64
 }

@@ -76,6 +76,7 @@ impl Groups {
         ensures filled { IsFilled keys.now (key + 1) self.new }
         ensures room { SameRoom self.old self.new }
     {
+        // There are at most 65,535 numbers, so nothing is lost.
         self.starts.push_reserved(self.members.len() as u16);
         push_with_key(&mut self.members, keys, key);
     }
@@ -89,6 +90,7 @@ fn push_with_key(members: &mut Vec<u16>, keys: &[u16], key: usize)
 {
     for (number, of) in keys.iter().enumerate() {
         if usize::from(*of) == key {
+            // There are at most 65,535 numbers, so nothing is lost.
             members.push_reserved(number as u16);
         }
     }

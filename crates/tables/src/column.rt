@@ -36,6 +36,7 @@ impl<P: Part> Column<P> {
         ensures { RowsOf P.makes (P.Part.row (fields_in file.now)) (fields_in file.now) self.new.rows.items }
     {
         self.rows.clear();
+        // A loop that pushes: `extend` does not promise to succeed where there is room.
         for field in file.fields() {
             if let Some(row) = P::of(&field) {
                 self.rows.push_reserved(row);

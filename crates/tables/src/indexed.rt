@@ -95,6 +95,7 @@ impl Indexed<'_> {
     {
         Span {
             start: self.place() + offset,
+            // A file has at most 16,384 bytes, so nothing is lost.
             length: self.bytes().len() as u16,
         }
     }

@@ -26,6 +26,7 @@ pub(crate) trait Part: Copy {
     ghost MOST: { ℕ };
 
     /// The row that stands for nothing.
+    // A row and no `Option`: the accessors of `Tables` can't fail, and the definitions see the same zeros.
     const ZEROS: Self;
 
     /// How many such rows a file makes at most.

@@ -14,7 +14,7 @@ impl fmt::Display for Indent {
     ghost output = { λ i. Some (blanks i.level) };
 
     fn fmt<W: fmt::Write>(&self, f: &mut fmt::Formatter<W>) -> fmt::Result {
-        // The same text so many times.
+        // A loop: each write may fail.
         for _ in 0..self.level {
             f.write_str("  ")?;
         }

@@ -59,6 +59,7 @@ fn enter(bytes: &[u8], entries: &mut Vec<Entry>) -> Result<(), Refusal>
     let mut reader = Reader::new(bytes);
     let mut next = Entry::default();
     while let Some(placed) = reader.next()? {
+        // A file has at most 16,384 bytes, so nothing is lost.
         next.place = placed.place as u16;
         entries.push_reserved(next);
         next = next.after(&placed.field);
