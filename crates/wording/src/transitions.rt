@@ -1,4 +1,6 @@
 // The section on transitions.
+ghost use Rattle.std.specs.Prelude.{◌≤◌, length};
+
 use crate::effects::Effects;
 use crate::names::StateName;
 use crate::triggers::Condition;
@@ -39,11 +41,17 @@ impl<M: Marks + Drop> fmt::Display for Transitions<'_, M> {
 }
 
 /// How many of the transitions have this source.
-fn count_from(transitions: &[Transition], source: u16) -> usize {
-    transitions
-        .iter()
-        .filter(|transition| transition.source == source)
-        .count()
+// A loop: `filter` and `count` take nearly three times the steps, which is half of the listing of a chart with many transitions.
+fn count_from(transitions: &[Transition], source: u16) -> usize
+    ensures { result ≤ length transitions.now }
+{
+    let mut count = 0;
+    for transition in transitions {
+        if transition.source == source {
+            count += 1;
+        }
+    }
+    count
 }
 
 /// A transition: its kind, where it leads from and to, when it is taken and what it emits.

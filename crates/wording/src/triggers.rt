@@ -129,15 +129,29 @@ impl<'a> Infix<'a> {
     }
 }
 
-/// The operands of `and` or `or`. The right one is the only end of both that is an expression.
+/// The operands of `and` or `or`, looked at once from the end: the right one begins where nothing is wanted any more.
 fn in_two(operands: &[u8]) -> (&[u8], &[u8])
     ensures left { length result.0.now ≤ length operands.now }
     ensures right { length result.1.now ≤ length operands.now }
 {
-    let start = (0..operands.len())
-        .find(|start| is_expression(&operands[*start..]))
+    let mut wanted = 1;
+    let start = operands
+        .iter()
+        .rposition(|byte| {
+            wanted = wanted_in_front(wanted, *byte);
+            wanted == 0
+        })
         .unwrap_or(0);
     operands.split_at(start)
+}
+
+/// How many expressions are wanted in front of the byte, with so many wanted up to it.
+fn wanted_in_front(wanted: usize, byte: u8) -> usize {
+    match Symbol::try_from(byte) {
+        Ok(Symbol::And | Symbol::Or) => wanted.saturating_add(1),
+        Ok(Symbol::Signal(_) | Symbol::Yes) => wanted.saturating_sub(1),
+        Ok(Symbol::Not) | Err(_) => wanted,
+    }
 }
 
 /// Whether the bytes come to one value.
