@@ -53,8 +53,9 @@ fn repeated(part: &str) -> Result<(u32, &str), CaseError> {
 /// The bytes of pairs of digits, with blanks between the pairs.
 fn bytes_of(heap: Global, text: &str) -> Result<Vec<u8>, CaseError> {
     let mut bytes = Vec::new(heap);
-    for word in text.split(' ') {
-        add_word(&mut bytes, word.as_bytes())?;
+    // Of the bytes and not of the text, where it takes twice as long to look for each blank.
+    for word in text.as_bytes().split(|byte| *byte == b' ') {
+        add_word(&mut bytes, word)?;
     }
     Ok(bytes)
 }
