@@ -1,5 +1,5 @@
 -- Fields gathered one by one, with their places.
-use Rattle.std.proofs.Common.{◌≡◌, ℕ, ◌<◌, List, [], ◌∷◌, ◌++◌, length, get_or, take, sym, ap, ◌∙◌, inl, inr, arith}
+use Rattle.std.proofs.Common.{◌≡◌, ℕ, ◌<◌, List, [], ◌∷◌, ◌++◌, length, get_or, take, sym, refl, ap, ◌∙◌, inl, inr, arith}
 use lib.ListN.{length-map}
 use lib.Seq.{take-append-le, take-append_seam}
 use Rattle.std.proofs.lemmas.List.{map-append, get_or_append_left, get_or_push, length_push}
@@ -13,6 +13,9 @@ use Rattle.chart.specs.Stated.{stated}
 pub record Gathered (ps : List Placed) (row : List Field) : Type 0 where
   pub fields : fields_in ps ≡ row
   pub places : (i : ℕ) → i < length ps → get_or (places_in ps) i 0 ≡ place_at (fields_in ps) i
+
+pub gathered_none : Gathered [] []
+gathered_none = record { fields = refl; places = λ i l. absurd (omega arith) }
 
 pub gathered_more : (ps : List Placed) (p : Placed) (row : List Field) → p.place ≡ length (encode_all row) → Gathered ps row → Gathered (ps ++ (p ∷ [])) (row ++ (stated p.field ∷ []))
 gathered_more ps p row at g =

@@ -68,6 +68,12 @@ stands fs h i l = ap first_field (from_place fs i l) ∙ first_encoded (get_or f
 from_behind : (fs : List Field) (i n : ℕ) (f : Field) → i < length fs → get_or fs i (graph 0) ≡ f → drop (place_at fs i + n) (encode_all fs) ≡ drop n (encode f ++ encode_all (drop (suc i) fs))
 from_behind fs i n f l is = sym (drop-drop n (place_at fs i) (encode_all fs)) ∙ ap (drop n) (from_place fs i l ∙ ap (λ g. encode g ++ encode_all (drop (suc i) fs)) is)
 
+-- its contents stand behind the tag and the length
+pub contents_at : (fs : List Field) (i : ℕ) → i < length fs → take (length (contents (get_or fs i (graph 0)))) (drop (place_at fs i + 3) (encode_all fs)) ≡ contents (get_or fs i (graph 0))
+contents_at fs i l =
+    let f = get_or fs i (graph 0) in
+    ap (take (length (contents f))) (from_behind fs i 3 f l refl) ∙ take-append_seam (contents f) (encode_all (drop (suc i) fs))
+
 -- Names, postfix and signal numbers stand at the end of the contents.
 
 module _ (fs : List Field) (i : ℕ) (l : i < length fs) where

@@ -1,10 +1,10 @@
 -- One step of the reader, from what it has passed.
-use Rattle.std.proofs.Common.{◌≡◌, ℕ, zero, suc, ◌+◌, ◌-◌, ◌≤◌, true, List, [], ◌∷◌, ◌++◌, reverse, length, take, drop, Ok, sym, refl, ap, ◌∙◌, subst, ap₂, append-nil, arith, length-append, length-drop, take-append-drop, length-take-le, take-add}
+use Rattle.std.proofs.Common.{◌≡◌, ℕ, zero, suc, ◌+◌, ◌-◌, ◌≤◌, true, List, [], ◌∷◌, ◌++◌, reverse, length, take, drop, Ok, sym, refl, ap, ◌∙◌, subst, ap₂, append-nil, arith, length-append, length-drop, take-append-drop, length-take-le, take_all, take-add}
 use lib.Seq.{take-append_seam}
 use Rattle.chart.specs.declared.refusals.Refusal.{Refusal}
 use Rattle.chart.specs.Kinds.{tag_code}
 use Rattle.chart.specs.Fields.{Field, tag_of, contents, encode, encode_all}
-use Rattle.chart.specs.Files.{is_row, Sized, piece, Faulty, Refused, at_field}
+use Rattle.chart.specs.Files.{is_row, Sized, Passes, piece, Faulty, Refused, at_field}
 use Rattle.chart.specs.Pieces.{Whole}
 use Rattle.chart.specs.Progress.{before}
 use Rattle.chart.specs.Reading.{read_from, or_none, row_of}
@@ -32,6 +32,10 @@ module _ (b : List ℕ) (at : ℕ) (within : at ≤ length b) (passed : encode_a
   -- the place is the length of what was passed
   pub at_is : length (encode_all (before b at)) ≡ at
   at_is = ap length passed ∙ length-take-le at b within
+
+  -- all of the file was read
+  pub all_read : Sized b → length b ≤ at → Passes b (before b at)
+  all_read s l = record { size = s; row = row; bytes = sym (passed ∙ take_all at b l) }
 
   -- what stands at the place is faulty
   pub refused : Sized b → (rest : List ℕ) → rest ≡ drop at b → (e : Refusal) → Faulty (reverse (before b at)) at rest e → Refused b e

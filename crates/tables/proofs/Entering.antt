@@ -1,5 +1,5 @@
 -- Entries made one by one.
-use Rattle.std.proofs.Common.{◌≡◌, ℕ, ◌+◌, ◌<◌, ◌≤◌, Bool, true, false, List, [], ◌∷◌, ◌++◌, length, get_or, take, sym, ap, ◌∙◌, inl, inr, arith}
+use Rattle.std.proofs.Common.{◌≡◌, ℕ, ◌+◌, ◌<◌, ◌≤◌, Bool, true, false, List, [], ◌∷◌, ◌++◌, length, get_or, take, sym, refl, ap, ◌∙◌, inl, inr, arith}
 use lib.Seq.{take-append-le, take-append_seam}
 use Rattle.std.proofs.lemmas.List.{get_or_append_left, get_or_push, length_push}
 use Rattle.std.proofs.str.Laws.{order}
@@ -28,6 +28,9 @@ pub record Counted (fs : List Field) (e : Entry) : Type 0 where
   pub transitions : e.transitions ≡ count (is Transition) fs
   pub suspensions : e.suspensions ≡ count (is Suspension) fs
 
+pub counted_none : Counted [] no_entry
+counted_none = record { states = refl; graphs = refl; transitions = refl; suspensions = refl }
+
 pub counted_more : (fs : List Field) (f : Field) (e : Entry) → Counted fs e → Counted (fs ++ (f ∷ [])) (counted e f)
 counted_more fs f e h = record {
   states = omega (arith, h.states, count_push (is State) fs f);
@@ -39,6 +42,9 @@ counted_more fs f e h = record {
 pub is_behind : (fs : List Field) (e : Entry) (place : ℕ) → Counted fs e → place ≡ length (encode_all fs)
     → record { place = place; states = e.states; graphs = e.graphs; transitions = e.transitions; suspensions = e.suspensions } ≡ behind fs
 is_behind fs e place h at = λ j. record { place = at j; states = h.states j; graphs = h.graphs j; transitions = h.transitions j; suspensions = h.suspensions j }
+
+pub entered_none : Entered [] []
+entered_none = record { counted = refl; told = λ i l. absurd (omega arith) }
 
 pub entered_more : (fs : List Field) (f : Field) (es : List Entry) (e : Entry) → e ≡ behind fs → Entered fs es → Entered (fs ++ (f ∷ [])) (es ++ (e ∷ []))
 entered_more fs f es e is h =

@@ -1,10 +1,11 @@
 -- Fields looked up where their entries tell.
-use Rattle.std.proofs.Common.{◌≡◌, ℕ, ◌<◌, ◌≤◌, Bool, true, false, cond, ltb, List, length, Some, None, sym, refl, ap, ◌∙◌, arith, ltb-true, lt-ltb}
+use Rattle.std.proofs.Common.{◌≡◌, ℕ, ◌<◌, ◌≤◌, Bool, true, false, cond, ltb, List, length, Some, None, sym, refl, ap, ◌∙◌, arith, ltb-false, ltb-true, lt-ltb}
 use Rattle.chart.specs.Fields.{Field, signal, state, graph, transition, suspension, trigger, effects, contents, encode_all, place_at}
 use Rattle.chart.specs.Files.{is_row}
 use Rattle.chart.specs.Lookup.{field_at}
 use Rattle.chart.proofs.Places.{stands, place_below}
 use Rattle.validity.specs.Parts.{bytes_in, at}
+use Rattle.validity.proofs.Numbers.{at_behind}
 use Rattle.tables.specs.declared.rows.Entry.{Entry}
 use Rattle.tables.specs.Entries.{entry_at, entry_if, lookup}
 
@@ -23,6 +24,22 @@ looked_up b fs row bytes i e h = go (ltb i (length fs)) refl
     go false l =
         let none : Some e ≡ None = h ∙ ap (λ t. cond t (Some (entry_at fs i)) None) l in
         absurd (grind arith)
+
+-- Behind the last field there is none.
+pub none_behind : (fs : List Field) (i : ℕ) → None ≡ lookup fs i → graph 0 ≡ at fs i
+none_behind fs i h = go (ltb i (length fs)) refl
+  where
+    go : (t : Bool) → ltb i (length fs) ≡ t → graph 0 ≡ at fs i
+    go true l =
+        let some : None ≡ Some (at fs i) = h ∙ ap (λ t. cond t (Some (at fs i)) None) l in
+        absurd (grind arith)
+    go false l = sym (at_behind fs i (ltb-false i (length fs) l))
+
+-- Before its end there is one.
+pub not_behind : (fs : List Field) (i : ℕ) → i < length fs → None ≡ lookup fs i → ⊥
+not_behind fs i l h =
+    let some : None ≡ Some (at fs i) = h ∙ ap (λ t. cond t (Some (at fs i)) None) (lt-ltb i (length fs) l) in
+    grind arith
 
 bytes_few : (f : Field) → length (bytes_in f) ≤ length (contents f)
 bytes_few (signal k name) = omega arith

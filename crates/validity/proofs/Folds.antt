@@ -24,6 +24,9 @@ any_of_out (suc n) p h =
 pub any_of_none : (n : ℕ) (p : ℕ → Bool) → any_of n p ≡ false → (i : ℕ) → i < n → p i ≡ false
 any_of_none n p h i l = is_false (p i) (λ e. clash (any_of_in n p i l e) h)
 
+pub no_any : (n : ℕ) (p : ℕ → Bool) → ((i : ℕ) → i < n → p i ≡ false) → any_of n p ≡ false
+no_any n p h = is_false (any_of n p) (λ e. let r = any_of_out n p e in clash r.2 (h r.0 r.1))
+
 pub any_of_same : (n : ℕ) (p q : ℕ → Bool) → ((i : ℕ) → i < n → p i ≡ q i) → any_of n p ≡ any_of n q
 any_of_same zero p q h = refl
 any_of_same (suc n) p q h = ap₂ (λ a b. a || b) (any_of_same n p q (λ i l. h i (omega arith))) (h n (omega arith))
@@ -35,6 +38,10 @@ all_of_at (suc n) p h i l =
       | yes e ↦ subst (λ j. p j ≡ true) (sym e) (both (all_of n p) (p n) h).1
       | no ne ↦ all_of_at n p (both (all_of n p) (p n) h).0 i (omega arith)
     ]
+
+pub all_of_in : (n : ℕ) (p : ℕ → Bool) → ((i : ℕ) → i < n → p i ≡ true) → all_of n p ≡ true
+all_of_in zero p h = refl
+all_of_in (suc n) p h = join (all_of n p) (p n) (all_of_in n p (λ i l. h i (omega arith))) (h n (omega arith))
 
 pub all_of_not : (n : ℕ) (p : ℕ → Bool) → all_of n p ≡ false → (i : ℕ) × (i < n) × (p i ≡ false)
 all_of_not zero p h = absurd (clash refl h)
