@@ -53,26 +53,20 @@ fn repeated(part: &str) -> Result<(u32, &str), CaseError> {
 /// The bytes of pairs of digits, with blanks between the pairs.
 fn bytes_of(heap: Global, text: &str) -> Result<Vec<u8>, CaseError> {
     let mut bytes = Vec::new(heap);
-    // Of the bytes and not of the text, where it takes twice as long to look for each blank.
-    for word in text.as_bytes().split(|byte| *byte == b' ') {
-        add_word(&mut bytes, word)?;
+    let mut digits = text.bytes();
+    // A loop: each pair may be no byte, and there may be no memory for it.
+    while let Some(c) = digits.next() {
+        if c != b' ' {
+            let byte = byte_of(c, digits.next()).ok_or(CaseError::NotACase)?;
+            bytes.push(byte)?;
+        }
     }
     Ok(bytes)
 }
 
-fn add_word(bytes: &mut Vec<u8>, word: &[u8]) -> Result<(), CaseError> {
-    // A loop: each pair may be no byte, and there may be no memory for it.
-    for pair in word.chunks(2) {
-        bytes.push(byte_of(pair).ok_or(CaseError::NotACase)?)?;
-    }
-    Ok(())
-}
-
-fn byte_of(pair: &[u8]) -> Option<u8> {
-    match pair {
-        [high, low] => Some(digit(*high)? << 4 | digit(*low)?),
-        _ => None,
-    }
+/// The byte of two digits; none if the second one is missing or either is no digit.
+fn byte_of(high: u8, low: Option<u8>) -> Option<u8> {
+    Some(digit(high)? << 4 | digit(low?)?)
 }
 
 /// The value of a hexadecimal digit; letters are capitals.
